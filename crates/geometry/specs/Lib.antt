@@ -1,0 +1,10 @@
+pub mod Vectors
+pub mod Signs
+pub mod Strikes
+pub mod Perturbed
+pub mod Machine
+pub mod Limits
+pub mod Units
+pub mod Light
+pub mod Theorems
+pub mod Cases
