@@ -5,3 +5,4 @@ pub mod Strikes
 pub mod Ranges
 pub mod Exact
 pub mod Turning
+pub mod Sizes

@@ -1,6 +1,8 @@
 pub mod Vectors
 pub mod Signs
 pub mod Strikes
+pub mod Refusals
+pub mod Answers
 pub mod Perturbed
 pub mod Machine
 pub mod Limits

@@ -37,3 +37,12 @@ pub record LawfulRun (d : V3) : Type 0 where
   pub y-high : d .y ≤ℤ pos 1024
   pub z-low : negℤ (pos 1024) ≤ℤ d .z
   pub z-high : d .z ≤ℤ negℤ (pos 1)
+
+-- the same of a receiver, which may lie one step higher than a corner
+pub record InReceiverLimits (u : V3) : Type 0 where
+  pub x-low : negℤ (pos 8192) ≤ℤ u .x
+  pub x-high : u .x ≤ℤ pos 8192
+  pub y-low : negℤ (pos 8192) ≤ℤ u .y
+  pub y-high : u .y ≤ℤ pos 8192
+  pub z-low : negℤ (pos 8192) ≤ℤ u .z
+  pub z-high : u .z ≤ℤ pos 8193

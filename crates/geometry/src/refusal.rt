@@ -1,4 +1,6 @@
 // Why a call refuses.
+ghost use mathlib.Core.Path.{_≡_};
+ghost use Rattle.geometry.specs.Refusals.{numberOf};
 
 // One case for each reason, with the number that stands for it in the program's output and towards C. docs/REFUSALS.md says which
 // call gives which, and in what order a call tests them.
@@ -34,4 +36,13 @@ pub enum Refusal {
     Room = 14,
     // a picture buffer that is too short
     Picture = 15,
+}
+
+impl Refusal {
+    // The number that stands for the refusal.
+    pub fn number(self) -> u8
+        ensures { λ r. ⌜ r ≡ numberOf self ⌝ }
+    {
+        self as u8
+    }
 }

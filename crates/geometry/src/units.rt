@@ -1,7 +1,8 @@
 // The units of the plan, each with a type of its own, so that a length is never taken for a pixel's number. Only the sample rule
 // passes from pixels to lengths.
 ghost use mathlib.Core.Path.{_≡_};
-ghost use Rattle.geometry.specs.Units.{sampleAt};
+ghost use Rattle.geometry.specs.Vectors.{vector};
+ghost use Rattle.geometry.specs.Units.{pointOf, sampleAt};
 
 // A length: a sixteenth of a pixel's side. Heights are in steps too.
 #[derive(Clone, Copy, PartialEq, Eq, Debug)]
@@ -21,6 +22,19 @@ pub struct Point {
     pub x: Step,
     pub y: Step,
     pub z: Step,
+}
+
+impl Point {
+    // The point of three coordinates in steps.
+    pub fn new(x: i64, y: i64, z: i64) -> Point
+        ensures { λ r. ⌜ pointOf r ≡ vector x y z ⌝ }
+    {
+        Point {
+            x: Step(x),
+            y: Step(y),
+            z: Step(z),
+        }
+    }
 }
 
 impl Column {

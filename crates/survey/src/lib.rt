@@ -1,0 +1,2 @@
+// The survey: begin, lay, close, cast, look and draw on any plane with any solid, and the law of what the marks mean.
+mod raster;
