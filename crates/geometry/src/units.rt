@@ -37,12 +37,20 @@ impl Point {
     }
 }
 
+// The middle of the pixel of a number, in steps.
+fn middle(number: u16) -> Step
+    ensures { λ r. ⌜ r .0 ≡ sampleAt number ⌝ }
+{
+    Step(16 * number as i64 + 8)
+}
+
 impl Column {
     // The x of the samples in this column: the middle of its pixels.
     pub fn sample(self) -> Step
         ensures { λ r. ⌜ r .0 ≡ sampleAt (self .0) ⌝ }
     {
-        Step(16 * self.0 as i64 + 8)
+        let Column(i) = self;
+        middle(i)
     }
 }
 
@@ -51,6 +59,7 @@ impl Row {
     pub fn sample(self) -> Step
         ensures { λ r. ⌜ r .0 ≡ sampleAt (self .0) ⌝ }
     {
-        Step(16 * self.0 as i64 + 8)
+        let Row(j) = self;
+        middle(j)
     }
 }
