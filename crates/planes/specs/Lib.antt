@@ -1,1 +1,5 @@
 pub mod Planes
+pub mod Rowwise
+pub mod Linear
+pub mod Packed
+pub mod Frames

@@ -1,1 +1,5 @@
 pub mod Solids
+pub mod Tables
+pub mod TableLaw
+pub mod Pairs
+pub mod Chains

@@ -1,1 +1,15 @@
 pub mod Drawing
+pub mod Spans
+pub mod Sides
+pub mod Tilts
+pub mod RasterOutlines
+pub mod Raster
+pub mod Survey
+pub mod Refusals
+pub mod Changes
+pub mod Lights
+pub mod Account
+pub mod Greatest
+pub mod Law
+pub mod Picture
+pub mod Cases

@@ -1,5 +1,6 @@
 // A tour of the library on a small job: which points of a flat roof does the south face of a chimney shade, with the sun at a given
 // bearing? It prints each step that it takes.
+mod roof;
 mod shade;
 
 use geometry::light::Bearing;
@@ -48,7 +49,8 @@ fn tour(rt: &LibcRuntime) -> Result<(), AnyError> {
     for face in &faces() {
         shade::show_face(rt, run, *face)?;
     }
-    shade::show_points(rt, run, &faces())
+    shade::show_points(rt, run, &faces())?;
+    roof::tour(rt)
 }
 
 fn main(rt: LibcRuntime) -> Result<(), AnyError> {

@@ -1,20 +1,35 @@
 // Runs many cases against the library: each line of the standard input is a call, its name and its numbers, and a line is written for
 // each with what the call answered. The expected answers come from an independent program; tools/vectors.py makes the two files.
+mod faces;
 mod light;
+mod planes;
 mod strikes;
+mod tables;
 mod words;
 
 use std::alloc::Global;
 use std::error::AnyError;
 use std::io::BufRead;
 use std::io::BufReader;
+use words::Numbers;
 
 // What the call in a line answers.
 fn answer(heap: Global, line: &str) -> Result<String, AnyError> {
-    let (name, numbers) = words::parse(heap, line)?;
+    let (name, list) = words::parse(heap, line)?;
+    let mut numbers = Numbers::of(list.as_slice());
     match name {
-        "turn" => light::turn(heap, numbers.as_slice()),
-        "strike" => strikes::strike(heap, numbers.as_slice()),
+        "turn" => light::turn(heap, &mut numbers),
+        "reach" => light::reach(heap, &mut numbers),
+        "strike" => strikes::strike(heap, &mut numbers),
+        "floor" => faces::floor(heap, &mut numbers),
+        "wall" => faces::wall(heap, &mut numbers),
+        "match" => tables::sides(heap, &mut numbers),
+        "many" => tables::many(heap, &mut numbers),
+        "load" => tables::load(heap, &mut numbers),
+        "pair" => tables::pair(heap, &mut numbers),
+        "line" => planes::linear(heap, &mut numbers),
+        "pack" => planes::packed(heap, &mut numbers),
+        "check" => planes::check(heap, &mut numbers),
         _ => Err("an unknown call".into()),
     }
 }

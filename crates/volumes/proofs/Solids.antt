@@ -18,7 +18,7 @@ use Rattle.volumes.specs.Volumes.{cornerOf, sunwardAt, wallAt, caps, depthFail
 use Rattle.volumes.specs.Theorems.{Count-is-right, Strikes-are-few}
 use Rattle.volumes.proofs.Walls.{walls-turn}
 use Rattle.volumes.proofs.Silhouette.{silhouette-walls}
-use Rattle.volumes.proofs.Reach.{triangle-counts}
+use Rattle.volumes.proofs.FarCap.{triangle-counts}
 
 -- ---- the sides of a triangle
 start-at : (S : SolidModel) (k s : ℕ) → s < 3 → startOf S (3 * k + s) ≡ pick (S .triangle k) s

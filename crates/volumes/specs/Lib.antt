@@ -1,6 +1,9 @@
 pub mod Faces
-pub mod Machine
 pub mod Extent
 pub mod Volumes
 pub mod Heights
+pub mod Wrapped
+pub mod Near
+pub mod Machine
 pub mod Theorems
+pub mod Cases

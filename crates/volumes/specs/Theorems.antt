@@ -2,16 +2,17 @@
 use mathlib.Core.Path.{_≡_}
 use mathlib.Core.Bool.{true, false}
 use mathlib.Core.Logic.{_⊎_}
-use Prim.Native.Nat.{_≤_}
+use Prim.Native.Nat.{ℕ, _<_, _≤_}
 use lib.IntN.{ℤ, pos, negℤ}
 use lib.Signed.{_≤ℤ_}
 use Rattle.geometry.specs.Vectors.{V3}
-use Rattle.volumes.specs.Faces.{Sample, Face, receiver, triangle, coversUp, coversDown, below, wall, contribution}
-use Rattle.geometry.specs.Limits.{LawfulRun}
+use Rattle.geometry.specs.Limits.{InLimits, LawfulRun}
 use Rattle.solids.specs.Solids.{SolidModel, Lawful}
-use Rattle.geometry.specs.Limits.{InLimits}
+use Rattle.volumes.specs.Faces.{Sample, Face, receiver, pixelSample, triangle, nearCap, farCap, wall, coversUp, coversDown, below, contribution}
+use Rattle.volumes.specs.Extent.{extent}
 use Rattle.volumes.specs.Volumes.{depthFail, struck, sunwardTotal}
 use Rattle.volumes.specs.Heights.{IsFloor, floorHeight, raisedTo}
+use Rattle.volumes.specs.Near.{NearFace, NearSample}
 
 -- THE COUNT IS RIGHT: what the faces of a solid's shadow volume count at a receiver is how often the solid's triangles strike it.
 -- The receiver may lie anywhere in the plan, and at any height from −8192 on.
@@ -60,3 +61,10 @@ abbrev pub Heights-are-in-range : Type 0
 Heights-are-in-range =
     (a b c : V3) (p : Sample) → InLimits a → InLimits b → InLimits c → Covers a b c p
     → (negℤ (pos 8191) ≤ℤ raisedTo (triangle a b c) p) × (raisedTo (triangle a b c) p ≤ℤ pos 8193)
+
+-- The faces of lawful triangles under lawful runs are near, and so are the samples of planes of at most 256 columns and rows: what the code computes of them is exact.
+pub record Faces-are-near : Type 0 where
+  pub near-caps : (a b c : V3) → InLimits a → InLimits b → InLimits c → NearFace (nearCap a b c)
+  pub far-caps : (a b c d : V3) → InLimits a → InLimits b → InLimits c → LawfulRun d → NearFace (farCap a b c (extent d))
+  pub walls : (u v d : V3) → InLimits u → InLimits v → LawfulRun d → NearFace (wall u v (extent d))
+  pub samples : (k l : ℕ) → k < 256 → l < 256 → NearSample (pixelSample k l)

@@ -1,0 +1,4 @@
+pub mod Law
+pub mod Chains
+pub mod Verdicts
+pub mod Tables

@@ -1,0 +1,17 @@
+pub mod SpanCuts
+pub mod SideTests
+pub mod RasterExtent
+pub mod RasterFrames
+pub mod TiltLaws
+pub mod RasterSweeps
+pub mod RasterFaces
+pub mod RasterDrawable
+pub mod Limits
+pub mod Pixels
+pub mod Steps
+pub mod Volumes
+pub mod Lights
+pub mod Accounts
+pub mod Greatest
+pub mod Surveys
+pub mod Pictures
