@@ -86,6 +86,15 @@ for c in cases("pair"):
     put("pair", tables(c["first"]) + tables(c["second"]),
         " ".join([str(n) for n in flat(p["corners"]) + flat(p["triangles"]) + p["partners"]] + ["end"]))
 
+def has_solid(corners, triangles):
+    """No closed solid has an odd number of triangles, nor triangles without corners."""
+    return triangles % 2 == 0 and (triangles == 0 or corners >= 3)
+
+
+for c in cases("pair_check"):
+    if has_solid(*c["first_counts"]) and has_solid(*c["second_counts"]):
+        put("sizes", c["first_counts"] + c["second_counts"], or_refused(c, lambda c: c["answer"]))
+
 OPS = ["wipe", "raise", "more", "less", "height", "count"]
 for c in cases("planes"):
     before = c["before"]

@@ -178,7 +178,7 @@ fn with_tables<'a>(
     on_lists(rt, &mut heights, &mut counts, &solid)
 }
 
-pub fn tour(rt: &LibcRuntime) -> Result<(), AnyError> {
+pub(crate) fn tour(rt: &LibcRuntime) -> Result<(), AnyError> {
     let corners = corners();
     let mut partners = [0u32; 36];
     println!(

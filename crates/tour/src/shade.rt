@@ -23,7 +23,7 @@ pub struct Face {
 }
 
 impl Face {
-    pub fn new(a: [i64; 3], b: [i64; 3], c: [i64; 3]) -> Face {
+    pub(crate) fn new(a: [i64; 3], b: [i64; 3], c: [i64; 3]) -> Face {
         Face {
             a: Point::new(a[0], a[1], a[2]),
             b: Point::new(b[0], b[1], b[2]),
@@ -38,7 +38,7 @@ fn show_vector(rt: &LibcRuntime, name: &str, v: Vector) -> Result<(), AnyError> 
 }
 
 // A face's corners and normal, and whether it is turned to the light.
-pub fn show_face(rt: &LibcRuntime, run: Run, face: Face) -> Result<(), AnyError> {
+pub(crate) fn show_face(rt: &LibcRuntime, run: Run, face: Face) -> Result<(), AnyError> {
     println!(rt, "A face:")?;
     show_vector(rt, "corner", face.a.vector())?;
     show_vector(rt, "corner", face.b.vector())?;
@@ -84,7 +84,7 @@ fn show_strike(rt: &LibcRuntime, run: Run, face: Face, p: Point) -> Result<(), A
 }
 
 // The points of the roof, one in the middle of each pixel, row by row from the north.
-pub fn show_points(rt: &LibcRuntime, run: Run, faces: &[Face]) -> Result<(), AnyError> {
+pub(crate) fn show_points(rt: &LibcRuntime, run: Run, faces: &[Face]) -> Result<(), AnyError> {
     for j in 0..5u16 {
         for i in 4..7u16 {
             let x = Column(i).sample();

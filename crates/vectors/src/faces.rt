@@ -35,7 +35,7 @@ fn told(heap: Global, face: &Face, sample: Sample) -> Result<String, AnyError> {
 }
 
 // floor, then the three corners of a triangle and a sample
-pub fn floor(heap: Global, numbers: &mut Numbers) -> Result<String, AnyError> {
+pub(crate) fn floor(heap: Global, numbers: &mut Numbers) -> Result<String, AnyError> {
     let a = numbers.point()?;
     let b = numbers.point()?;
     let c = numbers.point()?;
@@ -44,7 +44,7 @@ pub fn floor(heap: Global, numbers: &mut Numbers) -> Result<String, AnyError> {
 }
 
 // wall, then the two ends of a side, a run and a sample
-pub fn wall(heap: Global, numbers: &mut Numbers) -> Result<String, AnyError> {
+pub(crate) fn wall(heap: Global, numbers: &mut Numbers) -> Result<String, AnyError> {
     let u = numbers.point()?;
     let v = numbers.point()?;
     let run = numbers.run()?;

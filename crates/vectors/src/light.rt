@@ -7,7 +7,7 @@ use std::error::AnyError;
 use volumes::reach;
 
 // turn dx dy dz
-pub fn turn(heap: Global, numbers: &mut Numbers) -> Result<String, AnyError> {
+pub(crate) fn turn(heap: Global, numbers: &mut Numbers) -> Result<String, AnyError> {
     let dx = numbers.number()?;
     let dy = numbers.number()?;
     let dz = numbers.number()?;
@@ -21,7 +21,7 @@ pub fn turn(heap: Global, numbers: &mut Numbers) -> Result<String, AnyError> {
 }
 
 // reach dx dy dz: how many runs, and the extent
-pub fn reach(heap: Global, numbers: &mut Numbers) -> Result<String, AnyError> {
+pub(crate) fn reach(heap: Global, numbers: &mut Numbers) -> Result<String, AnyError> {
     let run = numbers.run()?;
     let times = match reach::reach(run) {
         Ok(times) => times,

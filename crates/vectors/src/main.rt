@@ -27,6 +27,7 @@ fn answer(heap: Global, line: &str) -> Result<String, AnyError> {
         "many" => tables::many(heap, &mut numbers),
         "load" => tables::load(heap, &mut numbers),
         "pair" => tables::pair(heap, &mut numbers),
+        "sizes" => tables::sizes(heap, &mut numbers),
         "line" => planes::linear(heap, &mut numbers),
         "pack" => planes::packed(heap, &mut numbers),
         "check" => planes::check(heap, &mut numbers),

@@ -118,7 +118,7 @@ fn framed<P: Plane + Drop>(
 }
 
 // line width rows, the heights, the counts, the frame, the calls
-pub fn linear(heap: Global, numbers: &mut Numbers) -> Result<String, AnyError> {
+pub(crate) fn linear(heap: Global, numbers: &mut Numbers) -> Result<String, AnyError> {
     let width = numbers.size()?;
     let rows = numbers.size()?;
     let mut heights = Vec::new(heap);
@@ -139,7 +139,7 @@ pub fn linear(heap: Global, numbers: &mut Numbers) -> Result<String, AnyError> {
 }
 
 // pack width rows, the stored numbers, the frame, the calls
-pub fn packed(heap: Global, numbers: &mut Numbers) -> Result<String, AnyError> {
+pub(crate) fn packed(heap: Global, numbers: &mut Numbers) -> Result<String, AnyError> {
     let width = numbers.size()?;
     let rows = numbers.size()?;
     let mut pixels = Vec::new(heap);
@@ -152,7 +152,7 @@ pub fn packed(heap: Global, numbers: &mut Numbers) -> Result<String, AnyError> {
 }
 
 // check, then width, rows and the length of the list or lists (0 for no second one)
-pub fn check(heap: Global, numbers: &mut Numbers) -> Result<String, AnyError> {
+pub(crate) fn check(heap: Global, numbers: &mut Numbers) -> Result<String, AnyError> {
     let width = numbers.natural()? as usize;
     let rows = numbers.natural()? as usize;
     let lists = numbers.size()?;

@@ -6,7 +6,7 @@ use std::alloc::Global;
 use std::error::AnyError;
 
 // strike, then three numbers each of the triangle's corners, the receiver and the run
-pub fn strike(heap: Global, numbers: &mut Numbers) -> Result<String, AnyError> {
+pub(crate) fn strike(heap: Global, numbers: &mut Numbers) -> Result<String, AnyError> {
     let a = numbers.point()?;
     let b = numbers.point()?;
     let c = numbers.point()?;

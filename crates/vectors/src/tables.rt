@@ -1,6 +1,9 @@
 // Cases of matching sides, loading tables and pairs.
 use crate::words::Numbers;
+use crate::words::refused;
 use geometry::units::Point;
+use sheets::sheets::Sheets;
+use sheets::sheets::SheetsSolid;
 use solids::matching::match_sides;
 use solids::misfit::Misfit;
 use solids::misfit::Site;
@@ -81,7 +84,7 @@ fn matched(
 }
 
 // match, then the numbers of corners, triangles and places of the list, the corners and the triangles
-pub fn sides(heap: Global, numbers: &mut Numbers) -> Result<String, AnyError> {
+pub(crate) fn sides(heap: Global, numbers: &mut Numbers) -> Result<String, AnyError> {
     let corner_count = numbers.size()?;
     let triangle_count = numbers.size()?;
     let length = numbers.size()?;
@@ -91,7 +94,7 @@ pub fn sides(heap: Global, numbers: &mut Numbers) -> Result<String, AnyError> {
 }
 
 // many, then the same three numbers, one corner and one triangle, which stand for all
-pub fn many(heap: Global, numbers: &mut Numbers) -> Result<String, AnyError> {
+pub(crate) fn many(heap: Global, numbers: &mut Numbers) -> Result<String, AnyError> {
     let corner_count = numbers.size()?;
     let triangle_count = numbers.size()?;
     let length = numbers.size()?;
@@ -113,7 +116,7 @@ pub fn many(heap: Global, numbers: &mut Numbers) -> Result<String, AnyError> {
 }
 
 // load, then the numbers of corners, triangles and partners, and the three lists
-pub fn load(heap: Global, numbers: &mut Numbers) -> Result<String, AnyError> {
+pub(crate) fn load(heap: Global, numbers: &mut Numbers) -> Result<String, AnyError> {
     let corner_count = numbers.size()?;
     let triangle_count = numbers.size()?;
     let length = numbers.size()?;
@@ -156,7 +159,7 @@ fn shown<S: Solid>(heap: Global, solid: &S) -> Result<String, AnyError> {
 }
 
 // pair, then two solids as for load
-pub fn pair(heap: Global, numbers: &mut Numbers) -> Result<String, AnyError> {
+pub(crate) fn pair(heap: Global, numbers: &mut Numbers) -> Result<String, AnyError> {
     let corner_count = numbers.size()?;
     let triangle_count = numbers.size()?;
     let length = numbers.size()?;
@@ -183,4 +186,23 @@ fn with_second(
     let _ = second.load(corners.as_slice(), faces.as_slice(), partners.as_slice());
     let both = Pair::new(first, second);
     shown(heap, &both)
+}
+
+// sizes, then the numbers of corners and of triangles of two solids: whether they make a pair
+pub(crate) fn sizes(heap: Global, numbers: &mut Numbers) -> Result<String, AnyError> {
+    let first = sheets(numbers)?;
+    let second = sheets(numbers)?;
+    match Pair::check(&first, &second) {
+        Ok(()) => Ok(String::from_str(heap, "fit")?),
+        Err(refusal) => refused(heap, refusal),
+    }
+}
+
+fn sheets(numbers: &mut Numbers) -> Result<Sheets, AnyError> {
+    let corners = numbers.size()?;
+    let triangles = numbers.size()?;
+    match Sheets::new(corners, triangles / 2) {
+        Some(solid) => Ok(solid),
+        None => Err("no solid of this size".into()),
+    }
 }

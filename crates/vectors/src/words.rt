@@ -6,7 +6,7 @@ use std::alloc::Global;
 use std::error::AnyError;
 
 // The first word, and the others as numbers.
-pub fn parse<'a>(heap: Global, line: &'a str) -> Result<(&'a str, Vec<i64>), AnyError> {
+pub(crate) fn parse<'a>(heap: Global, line: &'a str) -> Result<(&'a str, Vec<i64>), AnyError> {
     let mut words = line.split_whitespace();
     let Some(name) = words.next() else {
         return Err("an empty line".into());
@@ -26,11 +26,11 @@ pub struct Numbers<'a> {
 }
 
 impl<'a> Numbers<'a> {
-    pub fn of(list: &'a [i64]) -> Numbers<'a> {
+    pub(crate) fn of(list: &'a [i64]) -> Numbers<'a> {
         Numbers { list, at: 0 }
     }
 
-    pub fn number(&mut self) -> Result<i64, AnyError> {
+    pub(crate) fn number(&mut self) -> Result<i64, AnyError> {
         if self.at >= self.list.len() {
             return Err("a number is missing".into());
         }
@@ -40,7 +40,7 @@ impl<'a> Numbers<'a> {
     }
 
     // A number of places or of things.
-    pub fn size(&mut self) -> Result<usize, AnyError> {
+    pub(crate) fn size(&mut self) -> Result<usize, AnyError> {
         let number = self.number()?;
         if number < 0 || number > 100000 {
             return Err("not a size".into());
@@ -49,7 +49,7 @@ impl<'a> Numbers<'a> {
     }
 
     // A number of 32 bits; one outside is given as the greatest.
-    pub fn natural(&mut self) -> Result<u32, AnyError> {
+    pub(crate) fn natural(&mut self) -> Result<u32, AnyError> {
         let number = self.number()?;
         if number < 0 || number > 4294967295 {
             return Ok(4294967295);
@@ -57,14 +57,14 @@ impl<'a> Numbers<'a> {
         Ok(number as u32)
     }
 
-    pub fn point(&mut self) -> Result<Point, AnyError> {
+    pub(crate) fn point(&mut self) -> Result<Point, AnyError> {
         let x = self.number()?;
         let y = self.number()?;
         let z = self.number()?;
         Ok(Point::new(x, y, z))
     }
 
-    pub fn run(&mut self) -> Result<Run, AnyError> {
+    pub(crate) fn run(&mut self) -> Result<Run, AnyError> {
         let dx = self.number()?;
         let dy = self.number()?;
         let dz = self.number()?;
@@ -73,7 +73,7 @@ impl<'a> Numbers<'a> {
 }
 
 // How a refusal is written.
-pub fn refused(heap: Global, refusal: Refusal) -> Result<String, AnyError> {
+pub(crate) fn refused(heap: Global, refusal: Refusal) -> Result<String, AnyError> {
     let number = refusal.number();
     Ok(format!(heap, "refused {number}")?)
 }

@@ -17,7 +17,7 @@ pub struct Corner {
 
 impl Corner {
     // Where the point is in the plan.
-    pub fn under(point: Vector) -> Corner
+    pub(crate) fn under(point: Vector) -> Corner
         requires near_x { ⌜ natAbs (vectorOf point .x) ≤ 2 ^ 25 ⌝ }
         requires near_y { ⌜ natAbs (vectorOf point .y) ≤ 2 ^ 25 ⌝ }
         ensures x { λ r. ⌜ r .x ≡ vectorOf point .x ⌝ }
@@ -30,7 +30,7 @@ impl Corner {
     }
 
     // The one of the two that is further up in the plan.
-    pub fn upper(self, other: Corner) -> Corner
+    pub(crate) fn upper(self, other: Corner) -> Corner
         ensures first { λ r. ⌜ r .y ≤ℤ self .y ⌝ }
         ensures second { λ r. ⌜ r .y ≤ℤ other .y ⌝ }
     {
@@ -38,7 +38,7 @@ impl Corner {
     }
 
     // The one of the two that is further down in the plan.
-    pub fn lower(self, other: Corner) -> Corner
+    pub(crate) fn lower(self, other: Corner) -> Corner
         ensures first { λ r. ⌜ self .y ≤ℤ r .y ⌝ }
         ensures second { λ r. ⌜ other .y ≤ℤ r .y ⌝ }
     {

@@ -10,7 +10,7 @@ pub enum Facing {
 
 impl Facing {
     // The way that a normal with this z points; none if it is level.
-    pub fn of(z: i64) -> Option<Facing>
+    pub(crate) fn of(z: i64) -> Option<Facing>
         ensures { λ r. ⌜ r ≡ facingOf z ⌝ }
     {
         if z > 0 {

@@ -25,7 +25,7 @@ pub struct Outline {
 
 impl Outline {
     // What lies on the positive side of the three sides of a triangle.
-    pub fn triangle(a: Corner, b: Corner, c: Corner) -> Outline
+    pub(crate) fn triangle(a: Corner, b: Corner, c: Corner) -> Outline
         ensures is { λ r. ⌜ ((i j : ℕ) → covers r i j ≡ leftOf (seen a) (seen b ∷ seen c ∷ []) (sampleOf i j)) ⌝ }
         ensures framed { λ r. ⌜ Framed r ⌝ }
     {
@@ -40,7 +40,7 @@ impl Outline {
     }
 
     // What lies on the positive side of the four sides of a quadrilateral.
-    pub fn quadrilateral(a: Corner, b: Corner, c: Corner, d: Corner) -> Outline
+    pub(crate) fn quadrilateral(a: Corner, b: Corner, c: Corner, d: Corner) -> Outline
         ensures is { λ r. ⌜ ((i j : ℕ) → covers r i j ≡ leftOf (seen a) (seen b ∷ seen c ∷ seen d ∷ []) (sampleOf i j)) ⌝ }
         ensures framed { λ r. ⌜ Framed r ⌝ }
     {
@@ -55,7 +55,7 @@ impl Outline {
     }
 
     // The columns of the span that are covered in a row.
-    pub fn cut(&self, span: Span, row: u16) -> Span
+    pub(crate) fn cut(&self, span: Span, row: u16) -> Span
         ensures { λ r. ⌜ ((i : ℕ) → within (r .lo) (r .hi) i ≡ (within (span .lo) (span .hi) i && covers (now (self .entry)) i row)) ⌝ }
     {
         let span = self.first.cut(span, row);
@@ -65,7 +65,7 @@ impl Outline {
     }
 
     // The rows of the span whose samples lie between the topmost and the bottommost corner.
-    pub fn rows(&self, span: Span) -> Span
+    pub(crate) fn rows(&self, span: Span) -> Span
         ensures { λ r. ⌜ ((j : ℕ) → within (r .lo) (r .hi) j ≡ ((within (span .lo) (span .hi) j && positive (pos 16) (pos 9 -ℤ now (self .entry) .top .y) j) && positive (negsuc 15) (now (self .entry) .bottom .y -ℤ pos 7) j)) ⌝ }
     {
         span.cut(16, 9 - self.top.y).cut(-16, self.bottom.y - 7)

@@ -30,7 +30,7 @@ fn tie(dy: i64, dx: i64) -> i64
 
 impl Side {
     // The pixels whose samples are on the positive side of the way from u to v.
-    pub fn new(u: Corner, v: Corner) -> Side
+    pub(crate) fn new(u: Corner, v: Corner) -> Side
         ensures { λ r. ⌜ ((i j : ℕ) → inner (r .column) (r .row) (r .constant) i j ≡ isPositive (sideSign (seen u) (seen v) (sampleOf i j))) ⌝ }
     {
         let dx = v.x - u.x;
@@ -44,7 +44,7 @@ impl Side {
     }
 
     // Every pixel.
-    pub fn everywhere() -> Side
+    pub(crate) fn everywhere() -> Side
         ensures column { λ r. ⌜ r .column ≡ pos 0 ⌝ }
         ensures row { λ r. ⌜ r .row ≡ pos 0 ⌝ }
         ensures constant { λ r. ⌜ r .constant ≡ pos 1 ⌝ }
@@ -57,7 +57,7 @@ impl Side {
     }
 
     // The columns of the span that are on the inner side in a row.
-    pub fn cut(&self, span: Span, row: u16) -> Span
+    pub(crate) fn cut(&self, span: Span, row: u16) -> Span
         ensures { λ r. ⌜ ((i : ℕ) → within (r .lo) (r .hi) i ≡ (within (span .lo) (span .hi) i && inner (now (self .entry) .column) (now (self .entry) .row) (now (self .entry) .constant) i row)) ⌝ }
     {
         span.cut(self.column, self.row * row as i64 + self.constant)

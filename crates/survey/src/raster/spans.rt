@@ -15,7 +15,7 @@ impl Span {
     const EMPTY: Span = Span { lo: 0, hi: 0 };
 
     // The numbers i of the span where slope·i + start is positive.
-    pub fn cut(self, slope: i64, start: i64) -> Span
+    pub(crate) fn cut(self, slope: i64, start: i64) -> Span
         ensures { λ r. ⌜ ((i : ℕ) → within (r .lo) (r .hi) i ≡ (within (self .lo) (self .hi) i && positive slope start i)) ⌝ }
     {
         if slope > 0 {

@@ -39,7 +39,7 @@ fn sweep_rows<P: Plane, B: Brush + Copy>(plane: &mut P, outline: &Outline, rows:
 }
 
 // All that the outline covers.
-pub fn sweep<P: Plane, B: Brush + Copy>(plane: &mut P, outline: &Outline, brush: B)
+pub(crate) fn sweep<P: Plane, B: Brush + Copy>(plane: &mut P, outline: &Outline, brush: B)
     requires { ⌜ Framed (now outline) ⌝ }
     ensures after { λ _. ⌜ Painted (P·Plane .model (now (plane .entry))) (covers (now (outline .entry))) (B·Brush .lays brush) (B·Brush .adds brush) (P·Plane .model (now (plane .exit))) ⌝ }
     ensures names { λ _. ⌜ P·Plane .names (now (plane .exit)) ≡ P·Plane .names (now (plane .entry)) ⌝ }

@@ -33,7 +33,7 @@ pub struct Tilt {
 
 impl Tilt {
     // The plane through u whose normal, which points upwards, is n.
-    pub fn new(n: Vector, u: Vector) -> Tilt
+    pub(crate) fn new(n: Vector, u: Vector) -> Tilt
         requires rises { ⌜ pos 0 <ℤ vectorOf n .z ⌝ }
         requires normal { ⌜ Near (2 ^ 40) (vectorOf n) ⌝ }
         requires corner { ⌜ Near (2 ^ 25) (vectorOf u) ⌝ }
@@ -50,7 +50,7 @@ impl Tilt {
     }
 
     // The plane through u whose normal is n, which points the way that the face looks.
-    pub fn facing(n: Vector, u: Vector, facing: Facing) -> Tilt
+    pub(crate) fn facing(n: Vector, u: Vector, facing: Facing) -> Tilt
         requires rises { ⌜ pos 0 <ℤ turnedBy facing (vectorOf n .z) ⌝ }
         requires normal { ⌜ Near (2 ^ 40) (vectorOf n) ⌝ }
         requires corner { ⌜ Near (2 ^ 25) (vectorOf u) ⌝ }
@@ -73,7 +73,7 @@ impl Tilt {
     }
 
     // Whether the plane is below a height of a pixel.
-    pub fn is_below(&self, column: Column, row: Row, height: Step) -> bool
+    pub(crate) fn is_below(&self, column: Column, row: Row, height: Step) -> bool
         requires low { ⌜ negℤ (pos 8192) ≤ℤ height .0 ⌝ }
         requires high { ⌜ height .0 ≤ℤ pos 8193 ⌝ }
         ensures { λ r. ⌜ r ≡ ltZ (pos 0) (valueAt (now (self .entry) .base) (now (self .entry) .column) (now (self .entry) .row) (now (self .entry) .height) (column .0) (row .0) (height .0)) ⌝ }
@@ -82,7 +82,7 @@ impl Tilt {
     }
 
     // The least whole height of a pixel that the plane is below.
-    pub fn least_over(&self, column: Column, row: Row) -> Step
+    pub(crate) fn least_over(&self, column: Column, row: Row) -> Step
         ensures { λ r. ⌜ r .0 ≡ leastOver (now (self .entry) .base) (now (self .entry) .column) (now (self .entry) .row) (now (self .entry) .height) (column .0) (row .0) ⌝ }
     {
         let ground = self.ground(column, row);
