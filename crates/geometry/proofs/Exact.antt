@@ -1,8 +1,8 @@
 -- What wrapping arithmetic computes, against the integers: to wrap on the way changes nothing but the last result, and a result that fits 64 bits is exact.
-use Rattle.std.proofs.Common.{◌≡◌, ℕ, ℤ, ◌+ℤ◌, ◌-ℤ◌, ◌*ℤ◌, neg_ℤ, sym, refl, ap, ◌∙◌, subst, ap₂, w64, SFits, to_z, of_z}
+use Rattle.std.proofs.Common.{◌≡◌, ℤ, ◌+ℤ◌, ◌-ℤ◌, ◌*ℤ◌, neg_ℤ, sym, ap, ◌∙◌, subst, ap₂, w64, SFits, to_z, of_z}
 use Rattle.std.specs.Int.{int_wrap}
 use Rattle.geometry.specs.Vectors.{V3, vector, minus, dot, cross}
-use Rattle.geometry.specs.Machine.{vector_of, wrapped3}
+use Rattle.geometry.specs.Machine.{wrapped3}
 use Rattle.std.proofs.lemmas.Int.{to_z-of_z, SFits-int_wrap, int_wrap_fits, int_wrap-add_left, int_wrap-add_right, int_wrap-sub_right, int_wrap-mul_left, int_wrap-mul_right}
 
 kept : (z : ℤ) → to_z w64 (of_z w64 (int_wrap w64 z)) ≡ int_wrap w64 z

@@ -1,5 +1,5 @@
 -- What the tests of limits say, as facts.
-use Rattle.std.proofs.Common.{◌≡◌, Bool, true, false, ◌&&◌, ℤ, pos, neg_ℤ, ◌≤ℤ◌, arith}
+use Rattle.std.proofs.Common.{◌≡◌, true, ◌&&◌, ℤ, pos, neg_ℤ, ◌≤ℤ◌, arith}
 use borrow.Author.Differences.{ints}
 use lib.Signed.{le_z}
 use Rattle.std.proofs.lemmas.Bool.{and_parts}

@@ -1,13 +1,12 @@
 -- No number of the strike test leaves 64 bits, from the limits of coordinates and runs.
-use Rattle.std.proofs.Common.{◌≡◌, ℕ, ◌≤◌, List, [], ◌∷◌, ℤ, pos, neg_ℤ, nat_abs, ◌≤ℤ◌, ◌∙◌, ap₂, arith, w64, SFits}
+use Rattle.std.proofs.Common.{◌≡◌, ◌≤◌, List, [], ◌∷◌, ℤ, pos, neg_ℤ, nat_abs, ◌≤ℤ◌, ◌∙◌, ap₂, arith, w64, SFits}
 use borrow.Author.Differences.{ints}
 use lib.Signed.{le_z_yes}
-use Rattle.algebra.proofs.Ring.{Expr}
 use Rattle.algebra.proofs.Bounds.{AllUnder, fits_under}
 use Rattle.geometry.specs.Vectors.{V3, minus, dot, cross}
 use Rattle.geometry.specs.Strikes.{normal}
 use Rattle.geometry.specs.Limits.{InLimits, InReceiverLimits, LawfulRun}
-use Rattle.geometry.proofs.Expressions.{E3, e3, space, eminus, edot, ecross, enormal}
+use Rattle.geometry.proofs.Expressions.{e3, space, eminus, edot, ecross, enormal}
 use Rattle.geometry.specs.Machine.{vector_of, wrapped3}
 use Rattle.geometry.proofs.Exact.{Fits3, wrapped3_fits, cross_wrapped_right}
 

@@ -1,5 +1,5 @@
 -- Vectors as the code holds them: three machine numbers of 64 bits, a list of three.
-use Rattle.std.specs.Prelude.{ℕ, List, ℤ, pos, neg_ℤ, slice_index_or}
+use Rattle.std.specs.Prelude.{List, ℤ, pos, neg_ℤ, slice_index_or}
 use Rattle.std.specs.Int.{int_wrap, w64}
 use Rattle.geometry.specs.Vectors.{V3, vector, minus, dot}
 use Rattle.geometry.specs.Signs.{Sign, Negative, Zero, Positive, sign_of, ◌or_else◌}

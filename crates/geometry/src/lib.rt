@@ -1,5 +1,7 @@
 // Geometry below every plane and solid: units with types of their own, the light, vectors, and the test whether a triangle
 // keeps the light from a point (strike). The definitions are in specs/, the proofs in proofs/.
+#![tactic(auto)]
+
 pub mod export;
 pub mod light;
 pub mod limits;

@@ -131,19 +131,19 @@ impl<P: Plane> Plane for Frame<P> {
 
     // Each change also leaves the cutout, and the shape of the plane below, as they are.
     fn wipe(&mut self, ground: Step)
-        ensures after { Wiped (framed (model self.old.below) self.old.cutout) ground.0 (framed (model self.new.below) self.new.cutout) }
-        ensures names { names self.new.below ≡ names self.old.below }
+        ensures after { Wiped (framed (P.Plane.model self.old.below) self.old.cutout) ground.0 (framed (P.Plane.model self.new.below) self.new.cutout) }
+        ensures names { P.Plane.names self.new.below ≡ P.Plane.names self.old.below }
         ensures cutout { self.new.cutout ≡ self.old.cutout }
-        ensures below { SameShape (model self.old.below) (model self.new.below) }
+        ensures below { SameShape (P.Plane.model self.old.below) (P.Plane.model self.new.below) }
     {
         self.below.wipe(ground);
     }
 
     fn raise(&mut self, column: Column, row: Row, to: Step)
-        ensures after { Raised (framed (model self.old.below) self.old.cutout) column.0 row.0 to.0 (framed (model self.new.below) self.new.cutout) }
-        ensures names { names self.new.below ≡ names self.old.below }
+        ensures after { Raised (framed (P.Plane.model self.old.below) self.old.cutout) column.0 row.0 to.0 (framed (P.Plane.model self.new.below) self.new.cutout) }
+        ensures names { P.Plane.names self.new.below ≡ P.Plane.names self.old.below }
         ensures cutout { self.new.cutout ≡ self.old.cutout }
-        ensures below { SameShape (model self.old.below) (model self.new.below) }
+        ensures below { SameShape (P.Plane.model self.old.below) (P.Plane.model self.new.below) }
     {
         if self.cutout.holds(column, row) {
             self.below.raise(column, row, to);
@@ -151,10 +151,10 @@ impl<P: Plane> Plane for Frame<P> {
     }
 
     fn more(&mut self, column: Column, row: Row)
-        ensures after { Counted (framed (model self.old.below) self.old.cutout) column.0 row.0 1 (framed (model self.new.below) self.new.cutout) }
-        ensures names { names self.new.below ≡ names self.old.below }
+        ensures after { Counted (framed (P.Plane.model self.old.below) self.old.cutout) column.0 row.0 1 (framed (P.Plane.model self.new.below) self.new.cutout) }
+        ensures names { P.Plane.names self.new.below ≡ P.Plane.names self.old.below }
         ensures cutout { self.new.cutout ≡ self.old.cutout }
-        ensures below { SameShape (model self.old.below) (model self.new.below) }
+        ensures below { SameShape (P.Plane.model self.old.below) (P.Plane.model self.new.below) }
     {
         if self.cutout.holds(column, row) {
             self.below.more(column, row);
@@ -162,10 +162,10 @@ impl<P: Plane> Plane for Frame<P> {
     }
 
     fn less(&mut self, column: Column, row: Row)
-        ensures after { Counted (framed (model self.old.below) self.old.cutout) column.0 row.0 ((model self.old.below).modulus - 1) (framed (model self.new.below) self.new.cutout) }
-        ensures names { names self.new.below ≡ names self.old.below }
+        ensures after { Counted (framed (P.Plane.model self.old.below) self.old.cutout) column.0 row.0 ((P.Plane.model self.old.below).modulus - 1) (framed (P.Plane.model self.new.below) self.new.cutout) }
+        ensures names { P.Plane.names self.new.below ≡ P.Plane.names self.old.below }
         ensures cutout { self.new.cutout ≡ self.old.cutout }
-        ensures below { SameShape (model self.old.below) (model self.new.below) }
+        ensures below { SameShape (P.Plane.model self.old.below) (P.Plane.model self.new.below) }
     {
         if self.cutout.holds(column, row) {
             self.below.less(column, row);

@@ -1,6 +1,6 @@
 use Rattle.std.proofs.Common.{◌≡◌, ℤ, ap, ◌∙◌, w64, SFits, to_z, of_z}
 use Rattle.std.proofs.lemmas.Int.{to_z-of_z}
-use Rattle.geometry.specs.Vectors.{V3, vector}
+use Rattle.geometry.specs.Vectors.{vector}
 use Rattle.geometry.specs.Answers.{struck_or_refused, told_in_c}
 use Rattle.geometry.proofs.export.hovantsi_strike.Goals as goal
 

@@ -6,8 +6,8 @@ use Rattle.geometry.proofs.Exact.{fits_as}
 use Rattle.geometry.proofs.Sizes.{near_corner, near_receiver, fits_behind, exact_normal}
 use Rattle.geometry.proofs.strike.is_below.Goals as goal
 
-pub is-behind-requires : goal.is-behind-requires
-is-behind-requires c =
+pub is_behind-requires : goal.is_behind-requires
+is_behind-requires c =
     let A = point_of c.args.a in
     let B = point_of c.args.b in
     let C = point_of c.args.c in
@@ -21,4 +21,4 @@ returns c =
     let n = exact_normal c.normal.result (point_of c.args.a) (point_of c.args.b) (point_of c.args.c) c.requires.a c.requires.b c.requires.c c.normal.ensures in
     let a = c.vector.ensures in
     let p = c.vector-2.ensures in
-    c.is-behind.ensures ∙ (λ i. is_negative (plane_side (n i) (a i) (p i)))
+    c.is_behind.ensures ∙ (λ i. is_negative (plane_side (n i) (a i) (p i)))

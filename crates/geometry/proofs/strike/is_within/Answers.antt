@@ -8,8 +8,8 @@ use Rattle.geometry.proofs.Exact.{fits_as}
 use Rattle.geometry.proofs.Sizes.{near_corner, near_receiver, near_run, fits_within, exact_along}
 use Rattle.geometry.proofs.strike.is_within.Goals as goal
 
-pub is-behind-requires : goal.is-behind-requires
-is-behind-requires c =
+pub is_behind-requires : goal.is_behind-requires
+is_behind-requires c =
     let U = point_of c.args.u in
     let V = point_of c.args.v in
     let P = point_of c.args.p in
@@ -26,4 +26,4 @@ returns c =
     c.vector-2.ensures c.vector-u.ensures c.vector.ensures c.difference-side.ensures c.cross.ensures in
     let u = c.vector-u.ensures in
     let p = c.vector-3.ensures in
-    c.is-behind.ensures ∙ (λ i. is_negative (plane_side (n i) (u i) (p i)))
+    c.is_behind.ensures ∙ (λ i. is_negative (plane_side (n i) (u i) (p i)))

@@ -4,10 +4,10 @@ use Rattle.solids.proofs.Tables.{partnered_more}
 use Rattle.solids.specs.Tables.{unpaired}
 use Rattle.solids.proofs.matching.pair_sides.Goals as goal
 
-pub returns-in-default : goal.returns-in-default
-returns-in-default c =
-    let n = c.in-ok-test-tables.ensures in
-    says c.new.ensures (unpaired n (record { below = omega (arith, n.inside.filled.counted.long); fails = c.in-default.ensures; before = λ q h. (_, c.loop-place.invariant q h) }))
+pub returns-in_default : goal.returns-in_default
+returns-in_default c =
+    let n = c.in_ok-test_tables.ensures in
+    says c.new.ensures (unpaired n (record { below = omega (arith, n.inside.filled.counted.long); fails = c.in_default.ensures; before = λ q h. (_, c.loop-place.invariant q h) }))
 
 pub loop-place-preserved : goal.loop-place-preserved
 loop-place-preserved c =

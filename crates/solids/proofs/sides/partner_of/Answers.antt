@@ -3,7 +3,7 @@ use Rattle.solids.specs.Tables.{Same, Reverse}
 use Rattle.solids.specs.Chains.{key_at}
 use Rattle.solids.proofs.Chains.{Walked, key_as, walk_starts, walk_ends, passes_on, finds_one, finds_two, both_equal, not_both, none_left, some_there}
 use Rattle.solids.proofs.sides.partner_of.Goals as goal
-use Rattle.solids.proofs.sides.partner_of.Goals.{else-is-via-then-is+else-here-place, else-is-via-else-is, then-is-2+else-is-some, else-is-2}
+use Rattle.solids.proofs.sides.partner_of.Goals.{else-is-via-then-is+else-here-place, else-is-via-else-is, then-is-2+else-is_some, else-is-2}
 
 pub loop-ahead-init : goal.loop-ahead-init
 loop-ahead-init c =
@@ -14,8 +14,8 @@ loop-ahead-init c =
     subst (λ k. Walked ts q (get_or c.args.heads.now k 0) None) (sym e)
     (walk_starts ts c.args.heads.now c.args.links.now c.requires.linked q)
 
-pub returns-then-is-some : goal.returns-then-is-some
-returns-then-is-some c =
+pub returns-then-is_some : goal.returns-then-is_some
+returns-then-is_some c =
     let ts = c.args.triangles.now in
     let q = c.args.place in
     let p : ℕ = c.loop-ahead.ahead - 1 in
@@ -26,7 +26,7 @@ returns-then-is-some c =
       sym c.at-other.ensures.start ∙ b.0 ∙ c.reversed-reverse.ensures.0 ∙ c.at-side.ensures.end,
       sym c.at-other.ensures.end ∙ b.1 ∙ c.reversed-reverse.ensures.1 ∙ c.at-side.ensures.start,
     ) in
-    let x = some_there c.loop-ahead.found (sym c.if-is-some.ensures) in
+    let x = some_there c.loop-ahead.found (sym c.if-is_some.ensures) in
     finds_two ts c.args.heads.now c.args.links.now c.requires.linked q p c.loop-ahead.ahead one_more c.loop-ahead.found c.loop-ahead.invariant
     x.0 x.1 back
 
@@ -54,7 +54,7 @@ loop-ahead-preserved c =
           (start ∙ s.0 ∙ sym c.at-side.ensures.start, end' ∙ s.1 ∙ sym c.at-side.ensures.end))
     ] in
     elim c.if-is-2.branch [
-      | then-is-2+else-is-some w ↦
+      | then-is-2+else-is_some w ↦
           let b = both_equal c.at-other.result.from c.reversed-reverse.result.from c.at-other.result.to c.reversed-reverse.result.to
           (sym c.is-in-loop-ahead.ensures ∙ w.if-is-2.true) in
           let back : Reverse ts p q = (
@@ -62,7 +62,7 @@ loop-ahead-preserved c =
             sym end' ∙ b.1 ∙ c.reversed-reverse.ensures.1 ∙ c.at-side.ensures.start,
           ) in
           finds_one ts c.args.heads.now c.args.links.now c.requires.linked q p c.loop-ahead.ahead one_more c.loop-ahead.found c.loop-ahead.invariant
-          c.if-is-2.found own back (none_left _ (sym w.if-is-some.ensures)) w.found-is
+          c.if-is-2.found own back (none_left _ (sym w.if-is_some.ensures)) w.found-is
       | else-is-2 w ↦
           passes_on ts c.args.heads.now c.args.links.now c.requires.linked q p c.loop-ahead.ahead one_more c.loop-ahead.found c.loop-ahead.invariant
           c.if-is-2.found own

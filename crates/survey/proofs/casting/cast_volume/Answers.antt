@@ -10,9 +10,9 @@ loop-number-init g c = (tallied_none (g.P.Plane.model c.args.plane.now) (g.P.Pla
 
 pub loop-number-preserved : goal.loop-number-preserved
 loop-number-preserved g c = (
-  faces_more (g.P.Plane.model c.args.plane.now) (g.P.Plane.model c.loop-number.plane) (g.P.Plane.model c.cast-triangle.new.plane) (g.S.Solid.model c.args.solid.now) (run_of c.args.light.run) c.loop-number.number
-      (g.P.Plane.sound c.args.plane.now) c.loop-number.invariant.0 c.cast-triangle.ensures.after,
-  c.cast-triangle.ensures.names ∙ c.loop-number.invariant.1,
+  faces_more (g.P.Plane.model c.args.plane.now) (g.P.Plane.model c.loop-number.plane) (g.P.Plane.model c.cast_triangle.new.plane) (g.S.Solid.model c.args.solid.now) (run_of c.args.light.run) c.loop-number.number
+      (g.P.Plane.sound c.args.plane.now) c.loop-number.invariant.0 c.cast_triangle.ensures.after,
+  c.cast_triangle.ensures.names ∙ c.loop-number.invariant.1,
 )
 
 pub returns : goal.returns

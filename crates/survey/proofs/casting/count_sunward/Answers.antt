@@ -3,10 +3,10 @@ use Rattle.geometry.specs.Light.{run_of}
 use Rattle.survey.specs.Changes.{sunward_below}
 use Rattle.survey.proofs.Volumes.{sunward_more}
 use Rattle.survey.proofs.casting.count_sunward.Goals as goal
-use Rattle.survey.proofs.casting.count_sunward.Goals.{then-is-sunward-at, else-is-sunward-at}
+use Rattle.survey.proofs.casting.count_sunward.Goals.{then-is_sunward_at, else-is_sunward_at}
 
-pub overflow-add-sunward : goal.overflow-add-sunward
-overflow-add-sunward g c =
+pub overflow_add-sunward : goal.overflow_add-sunward
+overflow_add-sunward g c =
     let few = (g.S.Solid.lawful c.args.solid.now).triangles_few in
     let low = c.loop-number.invariant.1 in
     omega (arith, c.triangles-number-end.ensures)
@@ -17,10 +17,10 @@ loop-number-preserved g c =
     let d = run_of c.args.run in
     let e = c.loop-number.invariant.0 in
     let low = c.loop-number.invariant.1 in
-    elim c.if-is-sunward-at.branch [
-      | then-is-sunward-at w ↦ (w.sunward-is ∙ sunward_more S d c.loop-number.number c.loop-number.sunward true w.if-is-sunward-at.ensures e, omega (arith, w.sunward-is))
-      | else-is-sunward-at w ↦
-          (w.sunward-is ∙ sym (add-zero c.loop-number.sunward) ∙ sunward_more S d c.loop-number.number c.loop-number.sunward false w.if-is-sunward-at.ensures e, omega (arith, w.sunward-is))
+    elim c.if-is_sunward_at.branch [
+      | then-is_sunward_at w ↦ (w.sunward-is ∙ sunward_more S d c.loop-number.number c.loop-number.sunward true w.if-is_sunward_at.ensures e, omega (arith, w.sunward-is))
+      | else-is_sunward_at w ↦
+          (w.sunward-is ∙ sym (add-zero c.loop-number.sunward) ∙ sunward_more S d c.loop-number.number c.loop-number.sunward false w.if-is_sunward_at.ensures e, omega (arith, w.sunward-is))
     ]
 
 pub returns : goal.returns

@@ -10,8 +10,8 @@ use Rattle.survey.proofs.laying.begin.Goals as goal
 pub returns : goal.returns
 returns g c =
     let m = g.P.Plane.model c.args.plane.now in
-    let pixels : has_pixels m ≡ true = sym c.has-pixels.ensures ∙ c.if-not-has-pixels.false in
-    let ground : is_ground c.args.ground.0 ≡ true = sym c.is-ground.ensures ∙ c.if-not-is-ground.false in
+    let pixels : has_pixels m ≡ true = sym c.has_pixels.ensures ∙ c.if-not-has_pixels.false in
+    let ground : is_ground c.args.ground.0 ≡ true = sym c.is_ground.ensures ∙ c.if-not-is_ground.false in
     let begun : Begun m c.args.ground.0 (laying_of record { shape = c.of-shape.result }) (g.P.Plane.model c.wipe.new.self)
     = record { wiped = c.wipe.ensures.after; shape = c.of-shape.ensures; total = refl } in
     record {

@@ -14,7 +14,7 @@ returns g c =
     let some : has_triangles S ≡ true = has_triangles_lem S c.triangles.result c.triangles.ensures c.if-triangles-eq0.false in
     record {
       refuses = passes _ _ _ _ fit (passes _ _ _ _ some refl);
-      names = c.lay-triangles.ensures.names;
-      after = c.lay-triangles.ensures.after;
-      stands = laid_stands m (g.P.Plane.model c.lay-triangles.new.plane) S s refl c.lay-triangles.ensures.after;
+      names = c.lay_triangles.ensures.names;
+      after = c.lay_triangles.ensures.after;
+      stands = laid_stands m (g.P.Plane.model c.lay_triangles.new.plane) S s refl c.lay_triangles.ensures.after;
     }

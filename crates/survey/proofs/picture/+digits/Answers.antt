@@ -2,8 +2,8 @@ use Rattle.std.proofs.Common.{◌≡◌, ℕ, ◌+◌, ◌/◌, sym, ap, ◌∙�
 use Rattle.survey.proofs.Pictures.{length-digit, length-step, few_digits}
 use Rattle.survey.proofs.picture.+digits.Goals as goal
 
-pub overflow-add-result : goal.overflow-add-result
-overflow-add-result t c = let few = few_digits (c.args.number / 10) (omega arith) in omega (arith, c.digits.ensures)
+pub overflow_add-result : goal.overflow_add-result
+overflow_add-result t c = let few = few_digits (c.args.number / 10) (omega arith) in omega (arith, c.digits.ensures)
 
 pub returns-then-number-lt10 : goal.returns-then-number-lt10
 returns-then-number-lt10 t c = length-digit c.args.number c.if-number-lt10.true

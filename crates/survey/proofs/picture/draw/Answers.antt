@@ -6,13 +6,13 @@ use Rattle.survey.proofs.Limits.{passes, fails}
 use Rattle.survey.proofs.Pictures.{needed_length, appended_picture, picture_written, shows}
 use Rattle.survey.proofs.picture.draw.Goals as goal
 
-pub returns-then-buffer-picture-length : goal.returns-then-buffer-picture-length
-returns-then-buffer-picture-length g c =
+pub returns-then-buffer-picture_length : goal.returns-then-buffer-picture_length
+returns-then-buffer-picture_length g c =
     let m = g.P.Plane.model c.args.plane.now in
     let s = casting_of c.args.survey.now in
     let fit : fits s m ≡ true = sym c.fits.ensures ∙ c.if-not-fits.false in
-    let size : c.picture-length.result ≡ length (picture m s.total) = needed_length m s.total _ _ c.picture-length.result c.width-width.ensures c.rows-rows.ensures c.picture-length.ensures in
-    let short : leb (length (picture m s.total)) (length c.args.buffer.now) ≡ false = lt-leb _ _ (subst (λ (n : ℕ). length c.args.buffer.now < n) size c.if-buffer-picture-length.true) in
+    let size : c.picture_length.result ≡ length (picture m s.total) = needed_length m s.total _ _ c.picture_length.result c.width-width.ensures c.rows-rows.ensures c.picture_length.ensures in
+    let short : leb (length (picture m s.total)) (length c.args.buffer.now) ≡ false = lt-leb _ _ (subst (λ (n : ℕ). length c.args.buffer.now < n) size c.if-buffer-picture_length.true) in
     record {
       refuses = passes _ _ _ _ fit (fails _ _ _ short);
       length = tt;
@@ -25,14 +25,14 @@ returns g c =
     let m = g.P.Plane.model c.args.plane.now in
     let s = casting_of c.args.survey.now in
     let fit : fits s m ≡ true = sym c.fits.ensures ∙ c.if-not-fits.false in
-    let size : c.picture-length.result ≡ length (picture m s.total) = needed_length m s.total _ _ c.picture-length.result c.width-width.ensures c.rows-rows.ensures c.picture-length.ensures in
-    let room : leb (length (picture m s.total)) (length c.args.buffer.now) ≡ true = le-leb _ _ (subst (λ (n : ℕ). n ≤ length c.args.buffer.now) size c.if-buffer-picture-length.false) in
-    let all : Appended 0 (picture m s.total) c.args.buffer.now c.put-rows.new.buffer c.put-rows.result
-    = appended_picture m s.total _ _ c.args.buffer.now c.put-header-at.new.buffer c.put-rows.new.buffer c.put-header-at.result c.put-rows.result c.width-width.ensures c.rows-rows.ensures c.put-header-at.ensures c.put-rows.ensures in
-    let written : c.put-rows.new.buffer ≡ filled c.args.buffer.now (picture m s.total) = picture_written (picture m s.total) c.args.buffer.now c.put-rows.new.buffer c.put-rows.result all in
+    let size : c.picture_length.result ≡ length (picture m s.total) = needed_length m s.total _ _ c.picture_length.result c.width-width.ensures c.rows-rows.ensures c.picture_length.ensures in
+    let room : leb (length (picture m s.total)) (length c.args.buffer.now) ≡ true = le-leb _ _ (subst (λ (n : ℕ). n ≤ length c.args.buffer.now) size c.if-buffer-picture_length.false) in
+    let all : Appended 0 (picture m s.total) c.args.buffer.now c.put_rows.new.buffer c.put_rows.result
+    = appended_picture m s.total _ _ c.args.buffer.now c.put_header-at.new.buffer c.put_rows.new.buffer c.put_header-at.result c.put_rows.result c.width-width.ensures c.rows-rows.ensures c.put_header-at.ensures c.put_rows.ensures in
+    let written : c.put_rows.new.buffer ≡ filled c.args.buffer.now (picture m s.total) = picture_written (picture m s.total) c.args.buffer.now c.put_rows.new.buffer c.put_rows.result all in
     record {
       refuses = passes _ _ _ _ fit (passes _ _ _ _ room refl);
       length = all.place ∙ zero-add (length (picture m s.total));
       after = written;
-      stands = λ a st. shows a m (g.P.Plane.sound c.args.plane.now) s st c.args.buffer.now c.put-rows.new.buffer written;
+      stands = λ a st. shows a m (g.P.Plane.sound c.args.plane.now) s st c.args.buffer.now c.put_rows.new.buffer written;
     }

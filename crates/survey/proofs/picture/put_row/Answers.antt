@@ -4,8 +4,8 @@ use Rattle.survey.specs.Picture.{Appended, row_below}
 use Rattle.survey.proofs.Pictures.{length-row, appended_none, appended_pixel}
 use Rattle.survey.proofs.picture.put_row.Goals as goal
 
-pub grey-at-requires : goal.grey-at-requires
-grey-at-requires g c = c.requires.fits
+pub grey_at-requires : goal.grey_at-requires
+grey_at-requires g c = c.requires.fits
 
 pub put-place-requires : goal.put-place-requires
 put-place-requires g c =
@@ -20,7 +20,7 @@ loop-column-preserved g c =
     let m = g.P.Plane.model c.args.plane.now in
     appended_pixel m (casting_of c.args.survey.now).total c.args.row.0 c.loop-column.column c.args.at c.args.buffer.now c.loop-column.buffer c.put-place.new.buffer c.loop-column.place c.put-place.result
     c.loop-column.invariant
-    (subst (λ (b : ℕ). Appended c.loop-column.place (b ∷ []) c.loop-column.buffer c.put-place.new.buffer c.put-place.result) c.grey-at.ensures c.put-place.ensures)
+    (subst (λ (b : ℕ). Appended c.loop-column.place (b ∷ []) c.loop-column.buffer c.put-place.new.buffer c.put-place.result) c.grey_at.ensures c.put-place.ensures)
 
 pub returns : goal.returns
 returns g c =

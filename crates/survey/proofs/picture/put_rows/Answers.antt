@@ -4,8 +4,8 @@ use Rattle.survey.specs.Picture.{Appended, rows_below}
 use Rattle.survey.proofs.Pictures.{length-rows, row_fits, appended_none, appended_row}
 use Rattle.survey.proofs.picture.put_rows.Goals as goal
 
-pub put-row-place-requires : goal.put-row-place-requires
-put-row-place-requires g c =
+pub put_row-place-requires : goal.put_row-place-requires
+put_row-place-requires g c =
     let m = g.P.Plane.model c.args.plane.now in
     let l = length-rows m (casting_of c.args.survey.now).total c.loop-row.row in
     let h : c.loop-row.row < m.rows = omega (arith, c.rows-row-end.ensures) in
@@ -17,8 +17,8 @@ loop-row-init g c = appended_none c.args.at c.args.buffer.now
 
 pub loop-row-preserved : goal.loop-row-preserved
 loop-row-preserved g c =
-    appended_row (g.P.Plane.model c.args.plane.now) (casting_of c.args.survey.now).total c.loop-row.row c.args.at c.args.buffer.now c.loop-row.buffer c.put-row-place.new.buffer c.loop-row.place c.put-row-place.result
-    c.loop-row.invariant c.put-row-place.ensures
+    appended_row (g.P.Plane.model c.args.plane.now) (casting_of c.args.survey.now).total c.loop-row.row c.args.at c.args.buffer.now c.loop-row.buffer c.put_row-place.new.buffer c.loop-row.place c.put_row-place.result
+    c.loop-row.invariant c.put_row-place.ensures
 
 pub returns : goal.returns
 returns g c =

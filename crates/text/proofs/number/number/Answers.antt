@@ -5,11 +5,11 @@ use Rattle.text.proofs.number.number.Goals as goal
 use Rattle.text.proofs.number.number.Goals.{else-text-gt0-via-then-text-gt0+else-text-eq45, else-text-gt0-via-else-text-gt0}
 use Rattle.text.specs.Number.{Numeral}
 
-pub returns-in-default : goal.returns-in-default
-returns-in-default c =
+pub returns-in_default : goal.returns-in_default
+returns-in_default c =
     λ z h.
     let m = behind_minus _ _ z (first_and_rest c.args.text.now c.if-text-gt0.true c.if-text-eq45.true) h in
-    c.in-default.ensures (suc m.0) m.1
+    c.in_default.ensures (suc m.0) m.1
 
 pub returns-then-n-eq0 : goal.returns-then-n-eq0
 returns-then-n-eq0 c =

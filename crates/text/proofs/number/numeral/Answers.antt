@@ -28,11 +28,11 @@ returns-then-b-lt48 c =
       | then-b-lt48-via-else-b-lt48+then-b-gt57 w ↦ omega (arith, d.1, w.if-b-gt57.true)
     ]
 
-pub overflow-mul-value : goal.overflow-mul-value
-overflow-mul-value c = let b = below _ c.loop-b.b-index c.loop-b.invariant.0 (omega arith) in omega (arith, c.loop-b.invariant.1)
+pub overflow_mul-value : goal.overflow_mul-value
+overflow_mul-value c = let b = below _ c.loop-b.b-index c.loop-b.invariant.0 (omega arith) in omega (arith, c.loop-b.invariant.1)
 
-pub overflow-add-value : goal.overflow-add-value
-overflow-add-value c = let b = below _ c.loop-b.b-index c.loop-b.invariant.0 (omega arith) in omega (arith, c.loop-b.invariant.1)
+pub overflow_add-value : goal.overflow_add-value
+overflow_add-value c = let b = below _ c.loop-b.b-index c.loop-b.invariant.0 (omega arith) in omega (arith, c.loop-b.invariant.1)
 
 pub loop-b-preserved : goal.loop-b-preserved
 loop-b-preserved c =

@@ -6,21 +6,21 @@ use Rattle.volumes.proofs.Computed.{counted_below, counted_above}
 use Rattle.volumes.proofs.Exact.{contribution_exact}
 use Rattle.volumes.proofs.count.contribution.Goals as goal
 
-pub returns-then-is-below : goal.returns-then-is-below
-returns-then-is-below c =
+pub returns-then-is_below : goal.returns-then-is_below
+returns-then-is_below c =
     let f = face_of c.args.face.now in
     let p = sample_of c.args.sample in
     let z = c.args.z.0 in
-    let b : c.is-below.result ≡ wrapped_below f p z = search rules in
+    let b : c.is_below.result ≡ wrapped_below f p z = search rules in
     let k : c.covers.result ≡ cover_by (wrapped_side_signs f p) = search rules in
-    let w = to_z-of_z w64 c.weight.result record { sfits = c.weight.type-inv } ∙ counted_below f p c.covers.result k z c.weight.result c.is-below.result c.if-is-below.true b c.weight.ensures in
+    let w = to_z-of_z w64 c.weight.result record { sfits = c.weight.type_inv } ∙ counted_below f p c.covers.result k z c.weight.result c.is_below.result c.if-is_below.true b c.weight.ensures in
     record { wrapped = w; exact = λ n s h. w ∙ contribution_exact f p n s z h }
 
-pub returns-else-is-below : goal.returns-else-is-below
-returns-else-is-below c =
+pub returns-else-is_below : goal.returns-else-is_below
+returns-else-is_below c =
     let f = face_of c.args.face.now in
     let p = sample_of c.args.sample in
     let z = c.args.z.0 in
-    let b : c.is-below.result ≡ wrapped_below f p z = search rules in
-    let w = counted_above f p z c.is-below.result c.if-is-below.false b in
+    let b : c.is_below.result ≡ wrapped_below f p z = search rules in
+    let w = counted_above f p z c.is_below.result c.if-is_below.false b in
     record { wrapped = w; exact = λ n s h. w ∙ contribution_exact f p n s z h }

@@ -19,9 +19,9 @@ returns c =
     let e : vector_of c.receiver.result ≡ receiver p (pos 0) = search rules in
     let to : P ≡ wrapped3 (minus (receiver p (pos 0)) u) = c.difference.ensures ∙ ap (λ x. wrapped3 (minus x u)) e in
     let s : sign_is c.of.result ≡ sign_of C.z = search rules in
-    let t : sign_is c.of-negative.result ≡ sign_of (neg_ℤ S.y) = search rules in
+    let t : sign_is c.of_negative.result ≡ sign_of (neg_ℤ S.y) = search rules in
     let r : sign_is c.of-2.result ≡ sign_of S.x = search rules in
-    let o : sign_is c.or-else-2.result ≡ (sign_is c.of.result or_else sign_is c.of-negative.result) or_else sign_is c.of-2.result
-    = cc (c.or-else-2.ensures, c.or_else.ensures) in
-    let w = o ∙ side_sign_lem u v p S P C (sign_is c.of.result) (sign_is c.of-negative.result) (sign_is c.of-2.result) c.difference-side.ensures to c.cross-across.ensures s t r in
+    let o : sign_is c.or_else-2.result ≡ (sign_is c.of.result or_else sign_is c.of_negative.result) or_else sign_is c.of-2.result
+    = cc (c.or_else-2.ensures, c.or_else.ensures) in
+    let w = o ∙ side_sign_lem u v p S P C (sign_is c.of.result) (sign_is c.of_negative.result) (sign_is c.of-2.result) c.difference-side.ensures to c.cross-across.ensures s t r in
     record { wrapped = w; exact = λ h k l. w ∙ side_exact u v p h k l }

@@ -8,18 +8,18 @@ use Rattle.volumes.proofs.height.floor_ratio.Goals as goal
 pub returns-then-by-lt0 : goal.returns-then-by-lt0
 returns-then-by-lt0 c =
     let b = to_z-of_z w64 c.args.by c.ranges.by in
-    let q = to_z-of_z w64 c.floor-quotient.result record { sfits = c.floor-quotient.type-inv } in
-    let n : c.wrapping-neg.result ≡ int_wrap w64 (neg_ℤ c.args.number) = search (rules, wraps) in
-    let k = to_z-of_z w64 c.wrapping-neg.result record { sfits = c.wrapping-neg.type-inv } in
+    let q = to_z-of_z w64 c.floor_quotient.result record { sfits = c.floor_quotient.type_inv } in
+    let n : c.wrapping_neg.result ≡ int_wrap w64 (neg_ℤ c.args.number) = search (rules, wraps) in
+    let k = to_z-of_z w64 c.wrapping_neg.result record { sfits = c.wrapping_neg.type_inv } in
     let t : lt_z c.args.by (pos 0) ≡ true = cc c.if-by-lt0.true in
-    let m : c.unsigned-abs.result ≡ nat_abs c.args.by = cc c.unsigned-abs.ensures.value in
-    q ∙ ratio_down c.args.number c.args.by c.floor-quotient.result c.unsigned-abs.result t m (cc c.floor-quotient.ensures)
+    let m : c.unsigned_abs.result ≡ nat_abs c.args.by = cc c.unsigned_abs.ensures.value in
+    q ∙ ratio_down c.args.number c.args.by c.floor_quotient.result c.unsigned_abs.result t m (cc c.floor_quotient.ensures)
 
 pub returns-else-by-lt0 : goal.returns-else-by-lt0
 returns-else-by-lt0 c =
     let a = to_z-of_z w64 c.args.number c.ranges.number in
     let b = to_z-of_z w64 c.args.by c.ranges.by in
-    let q = to_z-of_z w64 c.floor-quotient-else-by-lt0.result record { sfits = c.floor-quotient-else-by-lt0.type-inv } in
+    let q = to_z-of_z w64 c.floor_quotient-else-by-lt0.result record { sfits = c.floor_quotient-else-by-lt0.type_inv } in
     let t : lt_z c.args.by (pos 0) ≡ false = cc c.if-by-lt0.false in
-    let m : c.unsigned-abs-else-by-lt0.result ≡ nat_abs c.args.by = cc c.unsigned-abs-else-by-lt0.ensures.value in
-    q ∙ ratio_up c.args.number c.args.by c.floor-quotient-else-by-lt0.result c.unsigned-abs-else-by-lt0.result c.ranges.number t m (cc c.floor-quotient-else-by-lt0.ensures)
+    let m : c.unsigned_abs-else-by-lt0.result ≡ nat_abs c.args.by = cc c.unsigned_abs-else-by-lt0.ensures.value in
+    q ∙ ratio_up c.args.number c.args.by c.floor_quotient-else-by-lt0.result c.unsigned_abs-else-by-lt0.result c.ranges.number t m (cc c.floor_quotient-else-by-lt0.ensures)

@@ -16,6 +16,6 @@ returns c =
     let e : vector_of c.receiver.result ≡ receiver p z = search rules in
     let d : vector_of c.difference.result ≡ wrapped3 (minus (receiver p z) f.first) = c.difference.ensures ∙ ap (λ x. wrapped3 (minus x f.first)) e in
     let a = plane_at f.normal f.first (receiver p z) c.dot-above.result (vector_of c.difference.result) d c.dot-above.ensures in
-    let l : c.are-alike.result ≡ alike (sign_of c.dot-above.result) (sign_of f.normal.z) = search rules in
+    let l : c.are_alike.result ≡ alike (sign_of c.dot-above.result) (sign_of f.normal.z) = search rules in
     let w = l ∙ ap (λ x. alike (sign_of x) (sign_of f.normal.z)) a in
     record { wrapped = w; exact = λ n s h. w ∙ below_exact f p n s z h }

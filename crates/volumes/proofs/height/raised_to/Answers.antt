@@ -10,8 +10,8 @@ returns-in-Up c =
     let f = face_of c.args.face.now in
     let p = sample_of c.args.sample in
     let k : c.covers.result ≡ cover_by (wrapped_side_signs f p) = search rules in
-    let r : c.next-above.result.0 ≡ wrapped_raised_to f p = search rules in
-    let w = raised_covered f p c.covers.result k c.next-above.result.0 c.in-Up.is r in
+    let r : c.next_above.result.0 ≡ wrapped_raised_to f p = search rules in
+    let w = raised_covered f p c.covers.result k c.next_above.result.0 c.in-Up.is r in
     record { wrapped = w; exact = λ n s. w ∙ raised_at_exact f p n s }
 
 pub returns-in-Beside : goal.returns-in-Beside

@@ -5,31 +5,31 @@ use Rattle.volumes.specs.Machine.{reach_of}
 use Rattle.volumes.proofs.Sweep.{refused, near, part_fits, answered}
 use Rattle.volumes.proofs.reach.extent.Goals as goal
 
-pub returns-in-err-times : goal.returns-in-err-times
-returns-in-err-times c =
-    let h : ◌≡◌ {A = Result ℤ Refusal} (Err c.in-err-times.field-0.0) (reach_of c.args.run) = search rules in
-    let p = err_from_is_err_and c.from-residual.result c.from-residual.ensures.1 in
-    rw (p.1, p.2) (refused c.args.run c.in-err-times.field-0.0 h)
+pub returns-in_err-times : goal.returns-in_err-times
+returns-in_err-times c =
+    let h : ◌≡◌ {A = Result ℤ Refusal} (Err c.in_err-times.field-0.0) (reach_of c.args.run) = search rules in
+    let p = err_from_is_err_and c.from_residual.result c.from_residual.ensures.1 in
+    rw (p.1, p.2) (refused c.args.run c.in_err-times.field-0.0 h)
 
-pub overflow-mul-result : goal.overflow-mul-result
-overflow-mul-result c =
-    let k = c.in-ok-times.times in
+pub overflow_mul-result : goal.overflow_mul-result
+overflow_mul-result c =
+    let k = c.in_ok-times.times in
     let h : ◌≡◌ {A = Result ℤ Refusal} (Ok k) (reach_of c.args.run) = search rules in
     let f : SFits w64 k = search rules in
     let g : SFits w64 c.args.run.dx = search rules in
     part_fits c.args.run k h f c.args.run.dx g (near c.args.run k h).x
 
-pub overflow-mul-result-2 : goal.overflow-mul-result-2
-overflow-mul-result-2 c =
-    let k = c.in-ok-times.times in
+pub overflow_mul-result-2 : goal.overflow_mul-result-2
+overflow_mul-result-2 c =
+    let k = c.in_ok-times.times in
     let h : ◌≡◌ {A = Result ℤ Refusal} (Ok k) (reach_of c.args.run) = search rules in
     let f : SFits w64 k = search rules in
     let g : SFits w64 c.args.run.dy = search rules in
     part_fits c.args.run k h f c.args.run.dy g (near c.args.run k h).y
 
-pub overflow-mul-result-3 : goal.overflow-mul-result-3
-overflow-mul-result-3 c =
-    let k = c.in-ok-times.times in
+pub overflow_mul-result-3 : goal.overflow_mul-result-3
+overflow_mul-result-3 c =
+    let k = c.in_ok-times.times in
     let h : ◌≡◌ {A = Result ℤ Refusal} (Ok k) (reach_of c.args.run) = search rules in
     let f : SFits w64 k = search rules in
     let g : SFits w64 c.args.run.dz = search rules in
@@ -37,7 +37,7 @@ overflow-mul-result-3 c =
 
 pub returns : goal.returns
 returns c =
-    let k = c.in-ok-times.times in
+    let k = c.in_ok-times.times in
     let h : ◌≡◌ {A = Result ℤ Refusal} (Ok k) (reach_of c.args.run) = search rules in
     let f : SFits w64 k = search rules in
     let x : SFits w64 c.args.run.dx = search rules in

@@ -21,7 +21,7 @@ returns-then-r0-r1 c =
     (begins c.later-r0.result c.args.self.r0 c.args.window.r0.0 (search rules) c.later-r0.ensures)
     (ends c.earlier-c1.result c.args.self.c1 c.args.window.c1.0 (search rules) c.earlier-c1.ensures)
     (ends c.earlier-r1.result c.args.self.r1 c.args.window.r1.0 (search rules) c.earlier-r1.ensures)
-    c.earlier-c1.type-inv c.earlier-r1.type-inv c.if-c0-c1.true c.if-r0-r1.true in
+    c.earlier-c1.type_inv c.earlier-r1.type_inv c.if-c0-c1.true c.if-r0-r1.true in
     record { c0 = t.0; r0 = t.1; c1 = t.2; r1 = t.3 }
 
 pub returns-else-c0-c1 : goal.returns-else-c0-c1

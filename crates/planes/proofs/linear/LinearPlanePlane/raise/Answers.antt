@@ -11,9 +11,9 @@ returns-in-Some-place c =
     let old = get_or c.args.self.now.heights.now c.in-Some-place.at (pos 0) in
     let to = height_given c.in-Some.to c.args.to.0 c.in-Some.ensures in
     let fits : SFits w32 old = search rules in
-    let was : to_z w32 (of_z w32 c.clamp.result) ≡ clamped old = to_z-of_z w32 c.clamp.result (record { sfits = c.clamp.type-inv }) ∙ c.clamp.ensures ∙ ap clamped (to_z-of_z w32 old fits) in
+    let was : to_z w32 (of_z w32 c.clamp.result) ≡ clamped old = to_z-of_z w32 c.clamp.result (record { sfits = c.clamp.type_inv }) ∙ c.clamp.ensures ∙ ap clamped (to_z-of_z w32 old fits) in
     let new : to_z w32 (of_z w32 c.max.result) ≡ int_max (clamped old) c.args.to.0
-    = to_z-of_z w32 c.max.result (record { sfits = c.max.type-inv }) ∙ c.max.ensures.value ∙ ap (λ z. int_max z (to_z w32 (of_z w32 c.in-Some.to))) was ∙ ap (int_max (clamped old)) to.1 in
+    = to_z-of_z w32 c.max.result (record { sfits = c.max.type_inv }) ∙ c.max.ensures.value ∙ ap (λ z. int_max z (to_z w32 (of_z w32 c.in-Some.to))) was ∙ ap (int_max (clamped old)) to.1 in
     record {
       after =
           one_raised c.args.self.now.shape.width c.args.self.now.shape.rows c.args.self.now.heights.now c.args.self.now.counts.now c.args.column.0 c.args.row.0 c.in-Some-place.at c.args.to.0 _

@@ -14,11 +14,11 @@ returns g c =
     let x : (l : ℕ) → Bool = λ l. within c.rows-rows.result.lo c.rows-rows.result.hi l in
     record {
       after =
-          painted_same m (g.P.Plane.model c.sweep-rows.new.plane) (λ k l. x l && covers out k l) (covers out) (g.B.Brush.lays c.args.brush) (g.B.Brush.adds c.args.brush)
+          painted_same m (g.P.Plane.model c.sweep_rows.new.plane) (λ k l. x l && covers out k l) (covers out) (g.B.Brush.lays c.args.brush) (g.B.Brush.adds c.args.brush)
           (λ k l w.
           all_rows (x l) (covers out k l)
           (no_row out c.requires (within c.window-window.result.r0.0 c.window-window.result.r1.0 l) (x l) k l
           (ap₂ (λ (a b : ℕ). within a b l) c.window-window.ensures.r0 c.window-window.ensures.r1 ∙ window_rows m k l w) (c.rows-rows.ensures l)))
-          c.sweep-rows.ensures.after;
-      names = c.sweep-rows.ensures.names;
+          c.sweep_rows.ensures.after;
+      names = c.sweep_rows.ensures.names;
     }

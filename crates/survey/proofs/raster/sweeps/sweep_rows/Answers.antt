@@ -18,7 +18,7 @@ pub loop-row-preserved : goal.loop-row-preserved
 loop-row-preserved g c =
     let m : PlaneModel = g.P.Plane.model c.args.plane.now in
     let n : PlaneModel = g.P.Plane.model c.loop-row.plane in
-    let o : PlaneModel = g.P.Plane.model c.sweep-row.new.plane in
+    let o : PlaneModel = g.P.Plane.model c.sweep_row.new.plane in
     let out : Outline = c.args.outline.now in
     let lo : ℕ = c.args.rows.lo in
     let j : ℕ = c.loop-row.row in
@@ -32,8 +32,8 @@ loop-row-preserved g c =
           (λ k l. row_apart lo j l (covers out k l)) (λ k l. row_more lo j l (covers out k l) h) c.loop-row.invariant.0
           (painted_same n o (λ k l. eqb l j && x k) (λ k l. eqb l j && covers out k l) (g.B.Brush.lays c.args.brush) (g.B.Brush.adds c.args.brush)
           (λ k l w. cut_row j k l (within n.c0 n.c1 k) (x k) (covers out k) (window_columns n k l w) (e k))
-          c.sweep-row.ensures.after),
-      c.sweep-row.ensures.names ∙ c.loop-row.invariant.1,
+          c.sweep_row.ensures.after),
+      c.sweep_row.ensures.names ∙ c.loop-row.invariant.1,
       search rules,
     )
 

@@ -39,8 +39,8 @@ one_more m i j a s e = turned_is m.modulus (m.count i j) Up (some_modulus m s) �
 as_before : (m : PlaneModel) (i j : ℕ) (a : ℤ) → Sound m → a ≡ pos 0 → mod_z (pos (m.count i j) +ℤ a) m.modulus ≡ m.count i j
 as_before m i j a s e = ap (λ (x : ℤ). mod_z (pos (m.count i j) +ℤ x) m.modulus) e ∙ none_more (m.count i j) m.modulus (s.counts i j)
 
-pub is-below-requires : goal.is-below-requires
-is-below-requires g c =
+pub is_below-requires : goal.is_below-requires
+is_below-requires g c =
     let m : PlaneModel = g.P.Plane.model c.args.plane.now in
     let s : Sound m = g.P.Plane.sound c.args.plane.now in
     let e = c.in-Some.ensures.1 in
@@ -59,7 +59,7 @@ returns-in-Up g c =
       after =
           counted m (g.P.Plane.model c.less.new.self) i j lays (adds b) (m.modulus - 1) c.less.ensures.after refl
           (one_less m i j (adds b i j (m.height i j)) (g.P.Plane.sound c.args.plane.now)
-          (added b i j c.in-Some.height.0 (m.height i j) facing.Up c.in-Some.ensures.1 (sym c.is-below.ensures ∙ c.if-is-below.true) c.in-Up.is));
+          (added b i j c.in-Some.height.0 (m.height i j) facing.Up c.in-Some.ensures.1 (sym c.is_below.ensures ∙ c.if-is_below.true) c.in-Up.is));
       names = c.less.ensures.names;
     }
 
@@ -73,12 +73,12 @@ returns-in-Down g c =
       after =
           counted m (g.P.Plane.model c.more.new.self) i j lays (adds b) 1 c.more.ensures.after refl
           (one_more m i j (adds b i j (m.height i j)) (g.P.Plane.sound c.args.plane.now)
-          (added b i j c.in-Some.height.0 (m.height i j) facing.Down c.in-Some.ensures.1 (sym c.is-below.ensures ∙ c.if-is-below.true) c.in-Down.is));
+          (added b i j c.in-Some.height.0 (m.height i j) facing.Down c.in-Some.ensures.1 (sym c.is_below.ensures ∙ c.if-is_below.true) c.in-Down.is));
       names = c.more.ensures.names;
     }
 
-pub returns-else-is-below : goal.returns-else-is-below
-returns-else-is-below g c =
+pub returns-else-is_below : goal.returns-else-is_below
+returns-else-is_below g c =
     let m : PlaneModel = g.P.Plane.model c.args.plane.now in
     let i : ℕ = c.args.column.0 in
     let j : ℕ = c.args.row.0 in
@@ -87,12 +87,12 @@ returns-else-is-below g c =
       after =
           kept m m i j lays (adds b) refl (λ _. refl)
           (λ _. as_before m i j (adds b i j (m.height i j)) (g.P.Plane.sound c.args.plane.now)
-          (not_added b i j c.in-Some.height.0 (m.height i j) c.in-Some.ensures.1 (sym c.is-below.ensures ∙ c.if-is-below.false)));
+          (not_added b i j c.in-Some.height.0 (m.height i j) c.in-Some.ensures.1 (sym c.is_below.ensures ∙ c.if-is_below.false)));
       names = search rules;
     }
 
-pub returns-in-default : goal.returns-in-default
-returns-in-default g c =
+pub returns-in_default : goal.returns-in_default
+returns-in_default g c =
     let m : PlaneModel = g.P.Plane.model c.args.plane.now in
     let i : ℕ = c.args.column.0 in
     let j : ℕ = c.args.row.0 in
@@ -100,6 +100,6 @@ returns-in-default g c =
     record {
       after =
           kept m m i j lays (adds b) refl (λ _. refl)
-          (λ w. absurd (true≢false (sym w ∙ outside m (g.P.Plane.sound c.args.plane.now) i j c.in-default.ensures)));
+          (λ w. absurd (true≢false (sym w ∙ outside m (g.P.Plane.sound c.args.plane.now) i j c.in_default.ensures)));
       names = search rules;
     }

@@ -18,8 +18,8 @@ returns g c =
     let j : ℕ = c.args.row.0 in
     record {
       after =
-          raised m (g.P.Plane.model c.raise.new.self) i j (lays c.args.self.now) (λ _ _ _. pos 0) c.least-over.result.0 c.raise.ensures.after
-          (ap (λ (v : ℤ). cond (is_height v) (Some v) None) (sym c.least-over.ensures))
+          raised m (g.P.Plane.model c.raise.new.self) i j (lays c.args.self.now) (λ _ _ _. pos 0) c.least_over.result.0 c.raise.ensures.after
+          (ap (λ (v : ℤ). cond (is_height v) (Some v) None) (sym c.least_over.ensures))
           (none_more (m.count i j) m.modulus ((g.P.Plane.sound c.args.plane.now).counts i j));
       names = c.raise.ensures.names;
     }

@@ -23,11 +23,11 @@ module _ (s : Side) (j : ℕ) (row : j < 65536) where
   is : (e : Expr) → T (safe (2 ^ 63) (cap limits) e) → back w64 (code w64 (at (env s j)) e) ≡ eval (at (env s j)) e
   is e t = back_within w64 (env s j) limits near e t
 
-pub overflow-mul-self : goal.overflow-mul-self
-overflow-mul-self c = ok c.args.self.now c.args.row (omega arith) (v0 ⊗ v2) tt
+pub overflow_mul-self : goal.overflow_mul-self
+overflow_mul-self c = ok c.args.self.now c.args.row (omega arith) (v0 ⊗ v2) tt
 
-pub overflow-add-self : goal.overflow-add-self
-overflow-add-self c = ok c.args.self.now c.args.row (omega arith) (v0 ⊗ v2 ⊕ v1) tt
+pub overflow_add-self : goal.overflow_add-self
+overflow_add-self c = ok c.args.self.now c.args.row (omega arith) (v0 ⊗ v2 ⊕ v1) tt
 
 pub returns : goal.returns
 returns c i =

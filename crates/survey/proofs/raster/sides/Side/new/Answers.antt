@@ -41,14 +41,14 @@ two = dy ⊗ (num 8 ⊖ v0)
 none : nat_abs (pos 0) ≤ 1
 none = omega arith
 
-pub overflow-mul-at-origin : goal.overflow-mul-at-origin
-overflow-mul-at-origin c = ok c.args.u c.args.v (pos 0) none one tt
+pub overflow_mul-at_origin : goal.overflow_mul-at_origin
+overflow_mul-at_origin c = ok c.args.u c.args.v (pos 0) none one tt
 
-pub overflow-mul-at-origin-2 : goal.overflow-mul-at-origin-2
-overflow-mul-at-origin-2 c = ok c.args.u c.args.v (pos 0) none two tt
+pub overflow_mul-at_origin-2 : goal.overflow_mul-at_origin-2
+overflow_mul-at_origin-2 c = ok c.args.u c.args.v (pos 0) none two tt
 
-pub overflow-add-at-origin : goal.overflow-add-at-origin
-overflow-add-at-origin c = ok c.args.u c.args.v (pos 0) none (one ⊕ two) tt
+pub overflow_add-at_origin : goal.overflow_add-at_origin
+overflow_add-at_origin c = ok c.args.u c.args.v (pos 0) none (one ⊕ two) tt
 
 -- what `tie` answers, of the differences themselves
 told : (u v : Corner) (t : ℤ) → t ≡ cond (leans (back w64 (code w64 (at (env u v (pos 0))) dy)) (back w64 (code w64 (at (env u v (pos 0))) dx))) (pos 1) (pos 0)
@@ -58,15 +58,16 @@ told u v t e = e ∙ ap₂ (λ (a b : ℤ). cond (leans a b) (pos 1) (pos 0)) (i
 few : (u v : Corner) (t : ℤ) → t ≡ cond (leans (back w64 (code w64 (at (env u v (pos 0))) dy)) (back w64 (code w64 (at (env u v (pos 0))) dx))) (pos 1) (pos 0) → nat_abs t ≤ 1
 few u v t e = subst (λ (z : ℤ). nat_abs z ≤ 1) (sym (told u v t e)) (tie_small (leans (u.y -ℤ v.y) (v.x -ℤ u.x)))
 
-pub overflow-add-result : goal.overflow-add-result
-overflow-add-result c = ok c.args.u c.args.v c.tie.result (few c.args.u c.args.v c.tie.result c.tie.ensures) (one ⊕ two ⊕ v4) tt
+pub overflow_add-result : goal.overflow_add-result
+overflow_add-result c = ok c.args.u c.args.v c.tie.result (few c.args.u c.args.v c.tie.result c.tie.ensures) (one ⊕ two ⊕ v4) tt
 
-pub invariant-of-result : goal.invariant-of-result
-invariant-of-result c =
-    let small = few c.args.u c.args.v c.tie.result c.tie.ensures in (
-      under c.args.u c.args.v c.tie.result small (num 16 ⊗ dx) (2 ^ 30) (lit≤ tt) tt,
-      (under c.args.u c.args.v c.tie.result small (one ⊕ two ⊕ v4) (2 ^ 54) (lit≤ tt) tt, tt),
-    )
+pub invariant_of-result : goal.invariant_of-result
+invariant_of-result c =
+    let small = few c.args.u c.args.v c.tie.result c.tie.ensures in
+    record {
+      row_near = under c.args.u c.args.v c.tie.result small (num 16 ⊗ dx) (2 ^ 30) (lit≤ tt) tt;
+      constant_near = under c.args.u c.args.v c.tie.result small (one ⊕ two ⊕ v4) (2 ^ 54) (lit≤ tt) tt;
+    }
 
 pub returns : goal.returns
 returns c i j =

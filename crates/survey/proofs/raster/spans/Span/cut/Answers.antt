@@ -6,32 +6,32 @@ use Rattle.survey.proofs.raster.spans.Span.cut.Goals as goal
 size : (z : ℤ) (n : ℕ) → SFits w64 z → n ≡ nat_abs (to_z w64 (of_z w64 z)) → n ≡ nat_abs z
 size z n f e = e ∙ ap nat_abs (to_z-of_z w64 z f)
 
-pub returns-then-last-out-self : goal.returns-then-last-out-self
-returns-then-last-out-self c i =
+pub returns-then-last_out-self : goal.returns-then-last_out-self
+returns-then-last_out-self c i =
     all_after _ _ i _ _
-    (rising c.args.slope c.args.start i _ _ (omega (arith, ints)) (omega (arith, ints)) (size _ _ c.ranges.slope c.unsigned-abs-then-slope-gt0.ensures.value) (size _ _ c.ranges.start c.unsigned-abs.ensures.value))
-    c.if-last-out-self.true
+    (rising c.args.slope c.args.start i _ _ (omega (arith, ints)) (omega (arith, ints)) (size _ _ c.ranges.slope c.unsigned_abs-then-slope-gt0.ensures.value) (size _ _ c.ranges.start c.unsigned_abs.ensures.value))
+    c.if-last_out-self.true
 
-pub returns-then-last-out-self-2 : goal.returns-then-last-out-self-2
-returns-then-last-out-self-2 c i =
+pub returns-then-last_out-self-2 : goal.returns-then-last_out-self-2
+returns-then-last_out-self-2 c i =
     some_after c.args.self.lo _ i _ _
-    (rising c.args.slope c.args.start i _ _ (omega (arith, ints)) (omega (arith, ints)) (size _ _ c.ranges.slope c.unsigned-abs-then-slope-gt0.ensures.value) (size _ _ c.ranges.start c.unsigned-abs.ensures.value))
-    c.if-last-out-self.false
+    (rising c.args.slope c.args.start i _ _ (omega (arith, ints)) (omega (arith, ints)) (size _ _ c.ranges.slope c.unsigned_abs-then-slope-gt0.ensures.value) (size _ _ c.ranges.start c.unsigned_abs.ensures.value))
+    c.if-last_out-self.false
 
-pub returns-else-last-out-self-2 : goal.returns-else-last-out-self-2
-returns-else-last-out-self-2 c i =
+pub returns-else-last_out-self-2 : goal.returns-else-last_out-self-2
+returns-else-last_out-self-2 c i =
     none_after c.args.self.lo c.args.self.hi i _ _
-    (rising c.args.slope c.args.start i _ _ (omega (arith, ints)) (omega (arith, ints)) (size _ _ c.ranges.slope c.unsigned-abs-then-slope-gt0.ensures.value) (size _ _ c.ranges.start c.unsigned-abs.ensures.value))
-    c.if-last-out-self-2.false
+    (rising c.args.slope c.args.start i _ _ (omega (arith, ints)) (omega (arith, ints)) (size _ _ c.ranges.slope c.unsigned_abs-then-slope-gt0.ensures.value) (size _ _ c.ranges.start c.unsigned_abs.ensures.value))
+    c.if-last_out-self-2.false
 
-pub returns-then-last-in-self : goal.returns-then-last-in-self
-returns-then-last-in-self c i =
+pub returns-then-last_in-self : goal.returns-then-last_in-self
+returns-then-last_in-self c i =
     some_before _ c.args.self.hi i _ _
-    (falling c.args.slope c.args.start i _ _ (omega (arith, ints)) (omega (arith, ints)) (size _ _ c.ranges.slope c.unsigned-abs-else-slope-eq0-2.ensures.value) (size _ _ c.ranges.start c.unsigned-abs-else-slope-eq0.ensures.value))
-    c.if-last-in-self.true
+    (falling c.args.slope c.args.start i _ _ (omega (arith, ints)) (omega (arith, ints)) (size _ _ c.ranges.slope c.unsigned_abs-else-slope-eq0-2.ensures.value) (size _ _ c.ranges.start c.unsigned_abs-else-slope-eq0.ensures.value))
+    c.if-last_in-self.true
 
-pub returns-else-last-in-self : goal.returns-else-last-in-self
-returns-else-last-in-self c i =
+pub returns-else-last_in-self : goal.returns-else-last_in-self
+returns-else-last_in-self c i =
     all_before _ c.args.self.hi i _ _
-    (falling c.args.slope c.args.start i _ _ (omega (arith, ints)) (omega (arith, ints)) (size _ _ c.ranges.slope c.unsigned-abs-else-slope-eq0-2.ensures.value) (size _ _ c.ranges.start c.unsigned-abs-else-slope-eq0.ensures.value))
-    c.if-last-in-self.false
+    (falling c.args.slope c.args.start i _ _ (omega (arith, ints)) (omega (arith, ints)) (size _ _ c.ranges.slope c.unsigned_abs-else-slope-eq0-2.ensures.value) (size _ _ c.ranges.start c.unsigned_abs-else-slope-eq0.ensures.value))
+    c.if-last_in-self.false

@@ -27,17 +27,17 @@ module _ (t : Tilt) (i j : ℕ) (hi : i < 65536) (hj : j < 65536) where
   under : nat_abs (back w64 (code w64 (at (env t i j)) all)) ≤ 2 ^ 62
   under = subst (λ (z : ℤ). nat_abs z ≤ 2 ^ 62) (sym is) (le_trans (abs-within (env t i j) limits near all) (lit≤ tt))
 
-pub overflow-mul-result : goal.overflow-mul-result
-overflow-mul-result c = ok c.args.self.now c.args.column.0 c.args.row.0 (omega arith) (omega arith) (v1 ⊗ v2) tt
+pub overflow_mul-result : goal.overflow_mul-result
+overflow_mul-result c = ok c.args.self.now c.args.column.0 c.args.row.0 (omega arith) (omega arith) (v1 ⊗ v2) tt
 
-pub overflow-add-result : goal.overflow-add-result
-overflow-add-result c = ok c.args.self.now c.args.column.0 c.args.row.0 (omega arith) (omega arith) (v0 ⊕ v1 ⊗ v2) tt
+pub overflow_add-result : goal.overflow_add-result
+overflow_add-result c = ok c.args.self.now c.args.column.0 c.args.row.0 (omega arith) (omega arith) (v0 ⊕ v1 ⊗ v2) tt
 
-pub overflow-mul-result-2 : goal.overflow-mul-result-2
-overflow-mul-result-2 c = ok c.args.self.now c.args.column.0 c.args.row.0 (omega arith) (omega arith) (v3 ⊗ v4) tt
+pub overflow_mul-result-2 : goal.overflow_mul-result-2
+overflow_mul-result-2 c = ok c.args.self.now c.args.column.0 c.args.row.0 (omega arith) (omega arith) (v3 ⊗ v4) tt
 
-pub overflow-add-result-2 : goal.overflow-add-result-2
-overflow-add-result-2 c = ok c.args.self.now c.args.column.0 c.args.row.0 (omega arith) (omega arith) all tt
+pub overflow_add-result-2 : goal.overflow_add-result-2
+overflow_add-result-2 c = ok c.args.self.now c.args.column.0 c.args.row.0 (omega arith) (omega arith) all tt
 
 pub returns : goal.returns
 returns c = record {

@@ -26,11 +26,11 @@ module _ (t : Tilt) (ground h : ℤ) (near : nat_abs ground ≤ 2 ^ 62) (low : n
   is : (e : Expr) → T (safe (2 ^ 63) (cap limits) e) → back w64 (code w64 (at (env t ground h)) e) ≡ eval (at (env t ground h)) e
   is e s = back_within w64 (env t ground h) limits all e s
 
-pub overflow-mul-result : goal.overflow-mul-result
-overflow-mul-result c = ok c.args.self.now c.ground.result c.args.height.0 c.ground.ensures.near c.requires.low c.requires.high (v1 ⊗ v2) tt
+pub overflow_mul-result : goal.overflow_mul-result
+overflow_mul-result c = ok c.args.self.now c.ground.result c.args.height.0 c.ground.ensures.near c.requires.low c.requires.high (v1 ⊗ v2) tt
 
-pub overflow-add-result : goal.overflow-add-result
-overflow-add-result c = ok c.args.self.now c.ground.result c.args.height.0 c.ground.ensures.near c.requires.low c.requires.high (v0 ⊕ v1 ⊗ v2) tt
+pub overflow_add-result : goal.overflow_add-result
+overflow_add-result c = ok c.args.self.now c.ground.result c.args.height.0 c.ground.ensures.near c.requires.low c.requires.high (v0 ⊕ v1 ⊗ v2) tt
 
 pub returns : goal.returns
 returns c =

@@ -30,8 +30,8 @@ returns-then-ground-gt0 c =
     let t : Tilt = c.args.self.now in
     let z : ℤ = c.ground-ground.result in
     let n : nat_abs z ≤ 2 ^ 62 = c.ground-ground.ensures.near in
-    least_above z t.height c.unsigned-abs.result c.unsigned-abs-rise.result n (above z n c.if-ground-gt0.true) t.rises
-    (c.unsigned-abs.ensures.value ∙ ap nat_abs (read_ground z n)) (c.unsigned-abs-rise.ensures.value ∙ ap nat_abs (read_height t))
+    least_above z t.height c.unsigned_abs.result c.unsigned_abs-rise.result n (above z n c.if-ground-gt0.true) t.rises
+    (c.unsigned_abs.ensures.value ∙ ap nat_abs (read_ground z n)) (c.unsigned_abs-rise.ensures.value ∙ ap nat_abs (read_height t))
     ∙ ap (λ (x : ℤ). floor_ratio (neg_ℤ x) t.height +ℤ pos 1) c.ground-ground.ensures.is
 
 pub returns-else-ground-gt0 : goal.returns-else-ground-gt0
@@ -39,6 +39,6 @@ returns-else-ground-gt0 c =
     let t : Tilt = c.args.self.now in
     let z : ℤ = c.ground-ground.result in
     let n : nat_abs z ≤ 2 ^ 62 = c.ground-ground.ensures.near in
-    least_under z t.height c.unsigned-abs-else-ground-gt0.result c.unsigned-abs-rise.result n (under z n c.if-ground-gt0.false) t.rises
-    (c.unsigned-abs-else-ground-gt0.ensures.value ∙ ap nat_abs (read_ground z n)) (c.unsigned-abs-rise.ensures.value ∙ ap nat_abs (read_height t))
+    least_under z t.height c.unsigned_abs-else-ground-gt0.result c.unsigned_abs-rise.result n (under z n c.if-ground-gt0.false) t.rises
+    (c.unsigned_abs-else-ground-gt0.ensures.value ∙ ap nat_abs (read_ground z n)) (c.unsigned_abs-rise.ensures.value ∙ ap nat_abs (read_height t))
     ∙ ap (λ (x : ℤ). floor_ratio (neg_ℤ x) t.height +ℤ pos 1) c.ground-ground.ensures.is

@@ -26,20 +26,18 @@ module _ (n : V3) (near : Near (2 ^ 40) n) where
 based : (n u : V3) (r : ℤ) → nat_abs (dot n (minus origin u)) ≤ 2 ^ 58 → r ≡ dot n (minus origin u) → back w64 r ≡ dot n (minus origin u)
 based n u r h e = ap (back w64) e ∙ read (dot n (minus origin u)) (2 ^ 58) h (lit< tt)
 
-pub invariant-of-result : goal.invariant-of-result
-invariant-of-result c =
+pub invariant_of-result : goal.invariant_of-result
+invariant_of-result c =
     let n : V3 = vector_of c.args.n in
     let u : V3 = vector_of c.args.u in
-    let b = based n u c.dot.result c.requires.offset (base_is n u _ c.dot.result c.requires.corner c.requires.offset c.difference.ensures c.dot.ensures) in (
-      subst (λ (z : ℤ). nat_abs z ≤ 2 ^ 58) (sym b) c.requires.offset,
-      (
-        under n c.requires.normal (num 16 ⊗ v0) (2 ^ 44) (lit≤ tt) tt,
-        (
-          under n c.requires.normal (num 16 ⊗ v1) (2 ^ 44) (lit≤ tt) tt,
-          (under n c.requires.normal v2 (2 ^ 40) (lit≤ tt) tt, (subst (λ (z : ℤ). pos 0 <ℤ z) (sym (is n c.requires.normal v2 tt)) c.requires.rises, tt)),
-        ),
-      ),
-    )
+    let b = based n u c.dot.result c.requires.offset (base_is n u _ c.dot.result c.requires.corner c.requires.offset c.difference.ensures c.dot.ensures) in
+    record {
+      base_near = subst (λ (z : ℤ). nat_abs z ≤ 2 ^ 58) (sym b) c.requires.offset;
+      column_near = under n c.requires.normal (num 16 ⊗ v0) (2 ^ 44) (lit≤ tt) tt;
+      row_near = under n c.requires.normal (num 16 ⊗ v1) (2 ^ 44) (lit≤ tt) tt;
+      height_near = under n c.requires.normal v2 (2 ^ 40) (lit≤ tt) tt;
+      rises = subst (λ (z : ℤ). pos 0 <ℤ z) (sym (is n c.requires.normal v2 tt)) c.requires.rises;
+    }
 
 pub returns : goal.returns
 returns c =
