@@ -1,7 +1,7 @@
 /* Hovantsi for callers in C.
  *
  * Lengths are in steps, a sixteenth of a pixel's side; x grows to the right, y downwards in the plan, z towards the viewer.
- * Link with target/staticlib/libgeometry.a, made by `rt staticlib geometry`; nothing else is needed.
+ * Link with target/staticlib/libgeometry.a, made by tools/staticlib.sh; nothing else is needed.
  */
 #ifndef HOVANTSI_H
 #define HOVANTSI_H

@@ -1,4 +1,4 @@
-// The strike test for callers in C; include/hovantsi.h declares it.
+// The strike test in numbers, for callers in C: the static library of the crate geometry_c exports it, and include/hovantsi.h declares it.
 ghost use Rattle.std.specs.Prelude.{◌≡◌};
 ghost use Rattle.geometry.specs.Vectors.{vector};
 ghost use Rattle.geometry.specs.Answers.{struck_or_refused, told_in_c};
@@ -20,8 +20,7 @@ fn told(answer: Result<bool, Refusal>) -> u8
 }
 
 // Whether the triangle a b c keeps light of the run d from the receiver p: 0 for no, 1 for yes, else the number of the refusal.
-#[unsafe(no_mangle)]
-pub extern "C" fn hovantsi_strike(
+pub fn hovantsi_strike(
     dx: i64,
     dy: i64,
     dz: i64,

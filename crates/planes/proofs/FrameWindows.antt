@@ -6,7 +6,7 @@ use Rattle.std.proofs.lemmas.Bool.{and_from, and_left, and_right, lt-ltb, le-ltb
 use Rattle.std.proofs.lemmas.Bool.Decides.{nat_tests}
 use Rattle.planes.specs.Planes.{PlaneModel, SameShape, Wiped, Raised, Counted, is_height, in_window, same}
 use Rattle.planes.specs.declared.frame.Cutout.{Cutout}
-use Rattle.planes.specs.Frames.{in_cutout, at_least0, beginning, ending, open_to, framed}
+use Rattle.planes.specs.Frames.{in_cutout, beginning, ending, open_to, framed}
 use Rattle.planes.proofs.Pixels.{raised_outside, counted_outside}
 
 -- ---- one direction: a number is in both ranges where it is from their later beginning to their earlier end

@@ -1,6 +1,6 @@
 -- What the law says of an answer of a solid.
-use Rattle.std.proofs.Common.{◌≡◌, ℕ, ◌+◌, ◌*◌, ◌<◌, ◌≤◌, Bool, true, false, cond, ltb, Some, None, sym, refl, subst, arith, ltb-true}
-use Rattle.solids.specs.Solids.{SolidModel, Lawful, Corners, corners_of, pick, places}
+use Rattle.std.proofs.Common.{◌≡◌, ℕ, ◌<◌, Bool, true, false, cond, ltb, Some, None, sym, refl, subst, arith, ltb-true}
+use Rattle.solids.specs.Solids.{SolidModel, Lawful, corners_of, pick, places}
 use Rattle.solids.specs.declared.solid.Triangle.{Triangle}
 
 -- the corner numbers of a triangle are below the limit of a solid

@@ -1,7 +1,7 @@
 -- Partner lists as loops make and read them.
-use Rattle.std.proofs.Common.{◌≡◌, ℕ, ◌+◌, ◌<◌, ◌≤◌, List, length, get_or, set, sym, refl, ap, ◌∙◌, subst, arith, get_or-set_other, get_or-set_same, below_more}
+use Rattle.std.proofs.Common.{◌≡◌, ℕ, ◌+◌, ◌<◌, ◌≤◌, List, length, get_or, set, sym, subst, arith, get_or-set_other, get_or-set_same, below_more}
 use Rattle.solids.specs.Solids.{Lawful}
-use Rattle.solids.specs.Tables.{tabled, sides, misfit, First, Partners, PartneredAt, Paired, Partnered, Unloaded, mispartnered}
+use Rattle.solids.specs.Tables.{tabled, sides, misfit, Partners, PartneredAt, Paired, Partnered, Unloaded, mispartnered}
 use Rattle.solids.specs.TableLaw.{AllInside, AllNumbered, AllWithin, AllReverse, AllBack, tabled_lawful}
 use Rattle.solids.specs.declared.misfit.Site.TheVariants.{Place as AtPlace}
 use Rattle.geometry.specs.declared.refusal.Refusal.TheVariants.{Side}

@@ -1,16 +1,14 @@
 -- What a misfit says, and that each verdict on tables is the only one.
-use Rattle.std.proofs.Common.{◌≡◌, ℕ, zero, suc, ◌*◌, ◌<◌, ◌≤◌, false, eqb, ◌⊎◌, List, length, get_or, sym, refl, ap, ◌∙◌, subst, inl, inr, ⊎_elim, arith}
+use Rattle.std.proofs.Common.{◌≡◌, ℕ, zero, suc, ◌<◌, ◌≤◌, false, eqb, ◌⊎◌, List, length, get_or, sym, refl, ap, ◌∙◌, subst, ⊎_elim, arith}
 use Rattle.std.proofs.lemmas.Bool.{cases_order, cases_eq, cases_lt, eqb-false}
 use Rattle.std.proofs.lemmas.List.{ext_get_or}
 use Rattle.geometry.specs.declared.units.Point.{Point}
-use Rattle.geometry.specs.declared.refusal.Refusal.{Refusal}
 use Rattle.geometry.specs.declared.refusal.Refusal.TheVariants.{Count, Empty, Coordinate, Corner, Side}
 use Rattle.solids.specs.Tables.{sides, misfit, First, InsideAt, NumberedAt, PairedAt, PartneredAt, Counted, Filled, Inside, Numbered, Paired, Partnered, OneVerdict}
 use Rattle.solids.specs.Tables.{Unmatched, many_corners, many_triangles, other_length, no_triangle, outside, misnumbered, unpaired}
 use Rattle.solids.specs.Tables.{Unloaded, unmatched, mispartnered}
 use Rattle.solids.specs.declared.solid.Triangle.{Triangle}
 use Rattle.solids.specs.declared.misfit.Misfit.{Misfit}
-use Rattle.solids.specs.declared.misfit.Site.{Site}
 use Rattle.solids.specs.declared.misfit.Site.TheVariants.{Nowhere, Corner as AtCorner, Triangle as AtTriangle, Place as AtPlace, Partners as AtPartners}
 
 -- a misfit by another name

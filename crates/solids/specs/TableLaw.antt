@@ -1,13 +1,13 @@
 -- Why tables that pass their tests keep the law of solids.
-use Rattle.std.specs.Prelude.{◌≡◌, ℕ, zero, suc, ◌+◌, ◌*◌, ◌<◌, ◌≤◌, Bool, true, false, not, ◌&&◌, T, List, [], length, ℤ, pos, neg_ℤ, ◌≤ℤ◌, ◌==◌, ◌≢◌, int_le, slice_index, slice_index_or, refl}
+use Rattle.std.specs.Prelude.{◌≡◌, ℕ, zero, suc, ◌<◌, ◌≤◌, Bool, true, false, not, ◌&&◌, T, List, [], length, ℤ, ◌≤ℤ◌, ◌==◌, ◌≢◌, int_le, slice_index, slice_index_or, refl}
 use Rattle.std.proofs.Common.{sym, subst, arith, ltb-true}
 use Rattle.std.proofs.lemmas.Bool.{eqb-false, not-true}
 use Rattle.std.specs.Int.Signed.{le_z_yes}
 use Rattle.geometry.specs.Vectors.{V3}
-use Rattle.geometry.specs.Limits.{InLimits, in_limits, between}
+use Rattle.geometry.specs.Limits.{InLimits, in_limits}
 use Rattle.geometry.specs.Units.{point_of}
 use Rattle.geometry.specs.declared.units.Point.{Point}
-use Rattle.solids.specs.Solids.{SolidModel, Lawful, Corners, corners_of, pick}
+use Rattle.solids.specs.Solids.{Lawful, Corners, corners_of, pick}
 use Rattle.solids.specs.declared.solid.Triangle.{Triangle}
 use Rattle.solids.specs.Tables.{tabled, empty_solid, blank_point, blank_triangle, sides, Reverse, InsideAt, are_numbers, NumberedAt}
 

@@ -1,5 +1,5 @@
 -- Records and the shapes of their lines.
-use Rattle.std.proofs.Common.{◌≡◌, ℕ, List, [], ◌∷◌, length, sym, refl, ap, ◌∙◌, subst}
+use Rattle.std.proofs.Common.{◌≡◌, length, refl}
 use Rattle.text.specs.declared.head.Record.{Record}
 use Rattle.text.specs.declared.head.Record.TheVariants as rec
 use Rattle.text.specs.Heads.{shape, head_of, fields}

@@ -1,11 +1,11 @@
 -- A line is cut in one way, and says one thing.
-use Rattle.std.proofs.Common.{◌≡◌, ℕ, zero, suc, ◌+◌, ◌-◌, ◌<◌, ◌≤◌, Bool, true, false, cond, eqb, ◌⊎◌, List, [], ◌∷◌, ◌++◌, length, get_or, drop, ℤ, pos, negsuc, Some, None, decimal, Option, sym, refl, ap, ◌∙◌, subst, inl, inr, ⊎_elim, append_assoc, append-nil, arith, rules}
-use Rattle.std.specs.Str.Parse.{AllDigits, digits_value}
+use Rattle.std.proofs.Common.{◌≡◌, ℕ, zero, suc, Bool, true, false, cond, eqb, List, [], ◌∷◌, ◌++◌, length, get_or, drop, ℤ, pos, negsuc, decimal, Option, sym, refl, ap, ◌∙◌, subst, append-nil, arith}
+use Rattle.std.specs.Str.Parse.{digits_value}
 use Rattle.std.specs.Fmt.{signed_decimal}
 use Rattle.std.proofs.lemmas.List.{append_cancel_left}
 use Rattle.std.proofs.lemmas.Str.Parse.{digit_at}
 use Rattle.std.proofs.lemmas.Fmt.{decimal_is_IsNumeral}
-use Rattle.std.proofs.lemmas.Bool.{true≢false, cond-true, cond-false, eq-eqb, ne_eqb}
+use Rattle.std.proofs.lemmas.Bool.{true≢false, cond-false, ne_eqb}
 use Rattle.text.specs.declared.head.Head.{Head}
 use Rattle.text.specs.declared.head.Head.TheVariants as head
 use Rattle.text.specs.declared.entry.Entry.{Entry}
@@ -15,17 +15,16 @@ use Rattle.text.specs.declared.entry.PlaneKind.TheVariants.{Line, Pack}
 use Rattle.text.specs.declared.entry.What.{What}
 use Rattle.text.specs.declared.entry.What.TheVariants.{Solids}
 use Rattle.text.specs.declared.fault.Fault.{Fault}
-use Rattle.text.specs.Pieces.{Without, AllWithout, pieces, glued}
-use Rattle.text.specs.Text.{FirstLine, ended}
-use Rattle.text.specs.Heads.{Sort, number, plane_kind, what, word, shape}
-use Rattle.text.specs.Number.{Numeral, SixDigits, Spells}
-use Rattle.text.specs.Entries.{entry_head, spelt, Few, Says, kind_word, what_word, Good, FirstBad}
+use Rattle.text.specs.Pieces.{Without, pieces}
+use Rattle.text.specs.Text.{FirstLine}
+use Rattle.text.specs.Heads.{Sort, number, word, shape}
+use Rattle.text.specs.Number.{Numeral, SixDigits}
+use Rattle.text.specs.Entries.{entry_head, spelt, Few, kind_word, Good, FirstBad}
 use Rattle.text.specs.Lines.{Parted, Reads, Headed, Misheaded, Unreadable, unended, unknown, misplaced, misheaded, miscounted, misspelt}
 use Rattle.geometry.specs.declared.refusal.Refusal.TheVariants as refusal
 use Rattle.text.specs.Faults.{fault_at}
 use Rattle.text.specs.Order.{MayFollow}
-use Rattle.text.specs.Spelling.{line_of}
-use Rattle.text.proofs.Cuts.{pieces-cut, pieces-last, pieces-some, without_from, pieces-glued}
+use Rattle.text.proofs.Cuts.{pieces-cut, pieces-last, pieces-some}
 use Rattle.text.proofs.Decimals.{numeral_digits, numeral_some}
 
 pub first_of : {X : Type 0} {x y : X} {xs ys : List X} → x ∷ xs ≡ y ∷ ys → x ≡ y

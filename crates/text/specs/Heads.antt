@@ -1,5 +1,5 @@
 -- The heads of a job's lines, and how many fields stand behind each.
-use Rattle.std.specs.Prelude.{◌≡◌, ℕ, List, [], ◌∷◌, codes}
+use Rattle.std.specs.Prelude.{ℕ, List, [], ◌∷◌, codes}
 use Rattle.text.specs.declared.head.Head.{Head}
 use Rattle.text.specs.declared.head.Head.TheVariants as head
 use Rattle.text.specs.declared.head.Record.{Record}

@@ -1,5 +1,5 @@
 -- Which lines pass the tests of the text, and what the others are refused with.
-use Rattle.std.specs.Prelude.{◌≡◌, ℕ, Bool, true, false, List, [], ◌∷◌, length, Option, ◌≢◌}
+use Rattle.std.specs.Prelude.{◌≡◌, ℕ, Bool, true, false, List, ◌∷◌, length, Option, ◌≢◌}
 use Rattle.text.specs.declared.head.Head.{Head}
 use Rattle.text.specs.declared.entry.Entry.{Entry}
 use Rattle.text.specs.declared.fault.Fault.{Fault}

@@ -1,4 +1,6 @@
 // The text of jobs: lines of a head and fields, what each line says, and which lines are refused for their text.
+#![tactic(auto)]
+
 pub mod classify;
 pub mod entry;
 pub mod fault;

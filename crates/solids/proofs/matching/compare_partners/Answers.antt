@@ -1,7 +1,7 @@
 use Rattle.std.proofs.Common.{sym, ◌∙◌, arith}
 use Rattle.std.proofs.lemmas.Result.{err_from_is_err_and}
 use Rattle.solids.proofs.Verdicts.{unloaded_as, unmatched_at}
-use Rattle.solids.proofs.Tables.{mispartnered_at, partnered_as}
+use Rattle.solids.proofs.Tables.{mispartnered_at}
 use Rattle.solids.proofs.matching.compare_partners.Goals as goal
 
 pub returns-in_err-match_sides : goal.returns-in_err-match_sides

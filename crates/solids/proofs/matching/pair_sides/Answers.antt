@@ -1,4 +1,4 @@
-use Rattle.std.proofs.Common.{◌≡◌, ◌<◌, ◌≢◌, length, sym, subst, arith, below_more}
+use Rattle.std.proofs.Common.{◌<◌, length, arith}
 use Rattle.solids.proofs.Verdicts.{says}
 use Rattle.solids.proofs.Tables.{partnered_more}
 use Rattle.solids.specs.Tables.{unpaired}

@@ -1,5 +1,4 @@
-use Rattle.std.proofs.Common.{sym, arith, ltb-true, eqb-true}
-use borrow.Author.Tests.{eqb-false}
+use Rattle.std.proofs.Common.{sym, eqb-true}
 use Rattle.solids.proofs.Verdicts.{says, filled_unless}
 use Rattle.solids.specs.Tables.{no_triangle, outside, misnumbered}
 use Rattle.solids.proofs.matching.test_tables.Goals as goal

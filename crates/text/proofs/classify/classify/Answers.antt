@@ -1,4 +1,4 @@
-use Rattle.std.proofs.Common.{◌≡◌, ℕ, List, [], ◌∷◌, length, sym, refl, ap, ◌∙◌, subst, arith, rules}
+use Rattle.std.proofs.Common.{◌≡◌, ℕ, List, ◌∷◌, length, sym, ap, ◌∙◌, subst, arith}
 use Rattle.text.specs.Lines.{Unreadable, unended, unknown, misplaced, misheaded, miscounted, misspelt}
 use Rattle.text.specs.declared.head.Head.{Head}
 use Rattle.text.specs.Pieces.{pieces}

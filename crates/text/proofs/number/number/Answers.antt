@@ -1,6 +1,6 @@
-use Rattle.std.proofs.Common.{◌≡◌, suc, ◌+◌, ◌-◌, ◌<◌, ◌≤◌, length, get_or, take, drop, sym, refl, ap, ◌∙◌, subst, ⊎_elim, arith, rules}
+use Rattle.std.proofs.Common.{◌≡◌, suc, ◌-◌, ◌<◌, length, get_or, sym, subst, arith}
 use Rattle.std.proofs.lemmas.Int.{ints}
-use Rattle.text.proofs.Decimals.{minus_spells, plain_spells, behind_minus, no_minus, first_and_rest, one_numeral}
+use Rattle.text.proofs.Decimals.{minus_spells, behind_minus, no_minus, first_and_rest, one_numeral}
 use Rattle.text.proofs.number.number.Goals as goal
 use Rattle.text.proofs.number.number.Goals.{else-text-gt0-via-then-text-gt0+else-text-eq45, else-text-gt0-via-else-text-gt0}
 use Rattle.text.specs.Number.{Numeral}

@@ -1,5 +1,4 @@
-use Rattle.std.proofs.Common.{◌%◌, arith, rules}
-use Rattle.planes.proofs.Lists.{at_set, off_set}
+use Rattle.std.proofs.Common.{arith, rules}
 use Rattle.planes.proofs.LinearWrites.{one_counted}
 use Rattle.planes.proofs.linear.LinearPlanePlane.less.Goals as goal
 

@@ -1,4 +1,4 @@
-use Rattle.std.proofs.Common.{◌≡◌, ◌*◌, ◌<◌, ◌≤◌, length, pos, ◌∙◌, arith}
+use Rattle.std.proofs.Common.{◌≡◌, ◌*◌, ◌<◌, length, pos, ◌∙◌, arith}
 use Rattle.planes.proofs.Lists.{filled}
 use Rattle.planes.proofs.Ranges.{height_given}
 use Rattle.planes.proofs.LinearWrites.{all_wiped}

@@ -1,4 +1,4 @@
-use Rattle.std.proofs.Common.{◌≡◌, ◌*◌, ◌<◌, ◌≤◌, length, ◌∙◌, arith}
+use Rattle.std.proofs.Common.{◌≡◌, ◌*◌, ◌<◌, length, ◌∙◌, arith}
 use Rattle.planes.proofs.Lists.{filled}
 use Rattle.planes.proofs.Ranges.{height_bounds, height_given}
 use Rattle.planes.proofs.PackedWrites.{all_wiped}

@@ -1,4 +1,4 @@
-use Rattle.std.proofs.Common.{◌<◌, arith}
+use Rattle.std.proofs.Common.{arith}
 use Rattle.solids.proofs.Law.{number_small}
 use Rattle.solids.proofs.pair.PairSolid.triangle.Goals as goal
 
