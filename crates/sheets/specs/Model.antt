@@ -1,10 +1,9 @@
 -- Sheets as a solid, and that they keep the law of solids.
 use Rattle.std.specs.Prelude.{◌≡◌, ℕ, zero, suc, ◌+◌, ◌-◌, ◌*◌, ◌/◌, ◌%◌, ◌<◌, ◌≤◌, min, pos, refl}
-use Rattle.std.proofs.Common.{sym, ◌∙◌, ap, ap₂, subst, arith}
+use Rattle.std.proofs.Common.{sym, ◌∙◌, ap, ap₂, arith}
 use Rattle.std.specs.Int.Signed.{le_z_yes}
 use Rattle.geometry.specs.Vectors.{vector}
-use Rattle.geometry.specs.Limits.{InLimits}
-use Rattle.solids.specs.Solids.{Corners, SolidModel, Lawful, pick, places, start_of, end_of}
+use Rattle.solids.specs.Solids.{Corners, SolidModel, Lawful, pick, start_of, end_of}
 
 -- the two triangles of a sheet
 abbrev pub face : ℕ → Corners

@@ -1,5 +1,5 @@
 -- Accounts: how each call carries one that stands on, and what a mark then tells.
-use Rattle.std.proofs.Common.{◌≡◌, ℕ, zero, suc, ◌+◌, ◌%◌, ◌<◌, ◌≤◌, Bool, true, false, cond, ◌&&◌, List, [], ◌∷◌, ◌++◌, ℤ, Option, sym, refl, ap, ◌∙◌, subst, ap₂, append_assoc, append-nil, add-zero, add_assoc, mod-eq_of_lt, zero-add, arith}
+use Rattle.std.proofs.Common.{◌≡◌, ℕ, zero, suc, ◌+◌, ◌%◌, ◌<◌, ◌≤◌, true, ◌&&◌, List, [], ◌∷◌, ◌++◌, ℤ, Option, sym, ap, ◌∙◌, subst, ap₂, append_assoc, append-nil, mod-eq_of_lt, arith}
 use native.Mathlib.Nat.{mod-add-mod, zero-mod}
 use Rattle.std.proofs.lemmas.Bool.{and_from, cond-true}
 use Rattle.std.proofs.lemmas.Bool.Decides.{nat_tests}
@@ -12,9 +12,9 @@ use Rattle.volumes.specs.Volumes.{sunward_total, struck}
 use Rattle.volumes.proofs.Solids.{strikes_are_few}
 use Rattle.planes.specs.Planes.{PlaneModel, inside, in_window, is_height}
 use Rattle.survey.specs.Drawing.{sample_of}
-use Rattle.survey.specs.Survey.{ShapeModel, SurveyModel, shape_of, mark_of}
+use Rattle.survey.specs.Survey.{SurveyModel, mark_of}
 use Rattle.survey.specs.Changes.{lays_of, Laid, Shadowed, Begun}
-use Rattle.survey.specs.Account.{Shadow, Account, bare, with_lay, with_cast, all_lays, all_strikes, all_sunward, receiver_height, strikes_at, total_of, Stands, Told, Undisturbed, CarriesLay, CarriesCast}
+use Rattle.survey.specs.Account.{Shadow, Account, bare, with_lay, all_lays, all_strikes, all_sunward, receiver_height, strikes_at, total_of, Stands, Told, Undisturbed, CarriesLay, CarriesCast}
 use Rattle.survey.specs.declared.mark.Mark.{Mark}
 use Rattle.survey.specs.declared.mark.Mark.TheVariants.{Shaded, Unsure, Lit}
 use Rattle.survey.proofs.Pixels.{same_numbers, same_window}

@@ -1,5 +1,5 @@
 -- The height of a receiver is the greatest of the ground and of what was laid there.
-use Rattle.std.proofs.Common.{◌≡◌, ℕ, zero, suc, ◌<◌, ◌⊎◌, List, [], ◌∷◌, ◌++◌, ℤ, ◌≤ℤ◌, Some, None, Option, sym, refl, ap, ◌∙◌, subst, inl, inr, arith}
+use Rattle.std.proofs.Common.{◌≡◌, ℕ, zero, suc, ◌<◌, ◌⊎◌, List, [], ◌∷◌, ℤ, ◌≤ℤ◌, Some, None, Option, sym, refl, ap, ◌∙◌, subst, inl, inr, arith}
 use Rattle.std.specs.Int.{int_max}
 use Rattle.std.proofs.lemmas.Int.{ints, clamps}
 use Rattle.std.proofs.lemmas.Bool.{cases_eq}
@@ -9,8 +9,8 @@ use Rattle.solids.specs.Solids.{SolidModel}
 use Rattle.volumes.specs.Faces.{Sample}
 use Rattle.survey.specs.Drawing.{sample_of}
 use Rattle.survey.specs.Changes.{lay_at, lays_below, lays_of}
-use Rattle.survey.specs.Account.{Account, all_lays, receiver_height}
-use Rattle.survey.specs.Greatest.{Among, LaysOn, Greatest, HeightsAreGreatest}
+use Rattle.survey.specs.Account.{all_lays, receiver_height}
+use Rattle.survey.specs.Greatest.{Among, LaysOn, HeightsAreGreatest}
 
 -- ---- one step
 raised_over : (x : ℤ) (o : Option ℤ) → x ≤ℤ raised_by x o

@@ -1,14 +1,13 @@
 -- What the answer for the extent of a run says.
-use Rattle.std.proofs.Common.{◌≡◌, ℕ, Bool, true, false, cond, List, [], ℤ, Ok, Err, Result, sym, refl, ap, ◌∙◌, subst, arith}
+use Rattle.std.proofs.Common.{◌≡◌, ℕ, Bool, true, false, cond, List, ℤ, Ok, Err, Result, sym, refl, ap, arith}
 use Rattle.geometry.specs.Light.{run_of}
-use Rattle.geometry.specs.Limits.{in_run_limits, LawfulRun}
+use Rattle.geometry.specs.Limits.{in_run_limits}
 use Rattle.geometry.specs.Machine.{vector_of}
 use Rattle.geometry.specs.declared.light.Run.{Run}
 use Rattle.geometry.specs.declared.refusal.Refusal.{Refusal}
 use Rattle.geometry.specs.declared.refusal.Refusal.TheVariants as refusal
 use Rattle.volumes.specs.Extent.{extent}
 use Rattle.volumes.specs.Machine.{extent_of}
-use Rattle.survey.proofs.Limits.{lawful_run}
 
 -- a test that gave an Ok, or an Err
 tested_ok : {X : Type 0} (b : Bool) (x y : X) (why : Refusal) → cond {A = Result X Refusal} b (Ok x) (Err why) ≡ Ok y → (b ≡ true) × (x ≡ y)

@@ -1,6 +1,5 @@
 -- What the tests before a call say, and what the law of a solid says of the corners of its triangles.
-use Rattle.std.proofs.Common.{◌≡◌, ℕ, ◌<◌, Bool, true, false, ◌&&◌, ltb, ℤ, pos, neg_ℤ, ◌≤ℤ◌, is_some, Some, None, Option, sym, refl, ap, ◌∙◌, subst, arith, MatchOption}
-use lib.Signed.{le_z}
+use Rattle.std.proofs.Common.{◌≡◌, ℕ, ◌<◌, Bool, true, false, ◌&&◌, ltb, ℤ, pos, neg_ℤ, is_some, Some, Option, sym, refl, subst, arith, MatchOption}
 use Rattle.std.proofs.lemmas.Int.{ints}
 use Rattle.std.proofs.lemmas.Bool.{and_parts, lt-ltb, both_ways, some_since}
 use Rattle.std.proofs.lemmas.Option.{MatchOption-at_some}

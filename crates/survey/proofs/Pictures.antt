@@ -1,6 +1,6 @@
 -- Writing a buffer from its front, and the bytes of a picture.
-use Rattle.std.proofs.Common.{◌≡◌, ℕ, zero, suc, ◌+◌, ◌-◌, ◌*◌, ◌/◌, ◌%◌, ◌^◌, ◌<◌, ◌≤◌, Bool, true, false, cond, ltb, ◌⊎◌, List, [], ◌∷◌, ◌++◌, length, get_or, take, drop, set, decimal, sym, refl, ap, ◌∙◌, subst, ap₂, inl, inr, append_assoc, append-nil, add-zero, add_assoc, suc-mul, mul_comm, mul-le-mul_left, mul-suc, add-one, arith, lit<, length-append, length-drop, drop-cons}
-use Rattle.std.proofs.lemmas.List.{set_at, get_or_at, take_more, take_all, get_or_append_left, get_or-append_right, get_or-append-add}
+use Rattle.std.proofs.Common.{◌≡◌, ℕ, zero, suc, ◌+◌, ◌-◌, ◌*◌, ◌/◌, ◌%◌, ◌^◌, ◌<◌, ◌≤◌, true, ltb, ◌⊎◌, List, [], ◌∷◌, ◌++◌, length, get_or, take, drop, set, decimal, sym, refl, ap, ◌∙◌, subst, ap₂, inl, inr, append_assoc, append-nil, add-zero, mul_comm, mul-le-mul_left, add-one, arith, lit<, length-append, length-drop, drop-cons}
+use Rattle.std.proofs.lemmas.List.{set_at, get_or_at, take_more, get_or_append_left, get_or-append_right, get_or-append-add}
 use Rattle.std.proofs.lemmas.Bool.{cond-true, cases_eq, and_parts, ltb-true}
 use Rattle.std.proofs.lemmas.Fmt.{decimal_digit, decimal_step, length-decimal-le}
 use Rattle.planes.specs.Planes.{PlaneModel, Sound, in_window}

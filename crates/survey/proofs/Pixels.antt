@@ -1,6 +1,6 @@
 -- Planes of one shape, and where their windows lie.
-use Rattle.std.proofs.Common.{◌≡◌, ℕ, Bool, true, false, cond, ◌&&◌, ltb, leb, Some, None, Option, sym, refl, ap, ◌∙◌, ap₂, arith}
-use Rattle.std.proofs.lemmas.Bool.{and_parts, and_from, ltb-true, leb-true, lt-ltb, cond-true}
+use Rattle.std.proofs.Common.{◌≡◌, ℕ, true, cond, ◌&&◌, ltb, leb, Some, None, Option, refl, ◌∙◌, arith}
+use Rattle.std.proofs.lemmas.Bool.{and_parts, and_from, ltb-true, lt-ltb, cond-true}
 use Rattle.planes.specs.Planes.{PlaneModel, Sound, SameShape, inside, in_window}
 use Rattle.survey.specs.Survey.{shape_of}
 

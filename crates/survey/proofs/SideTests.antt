@@ -1,5 +1,5 @@
 -- The function of a side is positive where the side's sign is: the tie is folded into its constant.
-use Rattle.std.proofs.Common.{◌≡◌, ℕ, zero, suc, ◌+◌, ◌*◌, ◌≤◌, Bool, true, false, cond, ℤ, pos, negsuc, ◌+ℤ◌, ◌-ℤ◌, ◌*ℤ◌, neg_ℤ, nat_abs, sym, refl, ap, ◌∙◌, arith}
+use Rattle.std.proofs.Common.{◌≡◌, ℕ, zero, suc, ◌≤◌, Bool, true, false, cond, ℤ, pos, negsuc, ◌+ℤ◌, ◌-ℤ◌, ◌*ℤ◌, neg_ℤ, nat_abs, sym, refl, ap, ◌∙◌, arith}
 use lib.Signed.{lt_z}
 use Rattle.std.proofs.lemmas.Int.{ints}
 use Rattle.std.proofs.lemmas.Bool.Decides.{nat_tests}
@@ -9,7 +9,6 @@ use Rattle.geometry.specs.Signs.{Sign, sign_of, ◌or_else◌, is_positive, is_n
 use Rattle.geometry.proofs.Signs.{flip_side, up_down, less_turned}
 use Rattle.volumes.specs.Faces.{Sample, side_sign}
 use Rattle.survey.specs.Drawing.{sample_of}
-use Rattle.survey.specs.Spans.{positive}
 use Rattle.survey.specs.Sides.{inner, leans}
 
 -- ---- the tie

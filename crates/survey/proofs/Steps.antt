@@ -1,13 +1,13 @@
 -- Changes of a plane one after another: laying more and more, and counting more and more.
-use Rattle.std.proofs.Common.{◌≡◌, ℕ, ◌+◌, ◌%◌, ◌<◌, Bool, true, false, cond, List, [], ◌∷◌, ◌++◌, ℤ, pos, ◌+ℤ◌, Option, sym, refl, ap, ◌∙◌, subst, ap₂, add-zero, mod-eq_of_lt, add-one, arith}
+use Rattle.std.proofs.Common.{◌≡◌, ℕ, ◌+◌, ◌%◌, ◌<◌, Bool, true, false, cond, List, [], ◌∷◌, ◌++◌, ℤ, pos, ◌+ℤ◌, Option, sym, refl, ap, ◌∙◌, subst, ap₂, add-zero, mod-eq_of_lt, add-one}
 use lib.IntN.{+ℤ_assoc}
 use Rattle.algebra.specs.Counts.{mod_z}
-use Rattle.algebra.specs.Maxima.{raised_by, maximum_over_some}
+use Rattle.algebra.specs.Maxima.{maximum_over_some}
 use Rattle.algebra.proofs.Counts.{mod_z-add}
 use Rattle.algebra.proofs.Maxima.{maximum_over_some-append}
 use Rattle.geometry.specs.Vectors.{V3}
 use Rattle.volumes.specs.Faces.{Sample, Face, contribution}
-use Rattle.planes.specs.Planes.{PlaneModel, SameShape, Sound, in_window}
+use Rattle.planes.specs.Planes.{PlaneModel, Sound, in_window}
 use Rattle.survey.specs.Drawing.{sample_of, laid_at, Drawn, LaidOn}
 use Rattle.solids.specs.Solids.{SolidModel}
 use Rattle.volumes.specs.Volumes.{corner_of}

@@ -1,9 +1,8 @@
 -- The law over whole surveys, by induction on the lists of attempts.
-use Rattle.std.proofs.Common.{◌≡◌, ℕ, ◌+◌, true, List, [], ◌∷◌, ◌++◌, ℤ, sym, refl, ap, ◌∙◌, subst, append_assoc, append-nil}
-use Rattle.geometry.specs.Vectors.{V3}
+use Rattle.std.proofs.Common.{◌≡◌, List, [], ◌∷◌, ◌++◌, sym, ap, subst, append_assoc, append-nil}
 use Rattle.solids.specs.Solids.{SolidModel}
 use Rattle.planes.specs.Planes.{PlaneModel}
-use Rattle.survey.specs.Survey.{ShapeModel, SurveyModel}
+use Rattle.survey.specs.Survey.{SurveyModel}
 use Rattle.survey.specs.Account.{Shadow, Account, Stands, with_lay, with_cast}
 use Rattle.survey.specs.Law.{LayAttempt, Lays, LayRefused, CastAttempt, Casts, CastRefused, LayRun, CastRun, accepted_lays, accepted_casts, account_of, SurveysObey}
 use Rattle.survey.proofs.Limits.{ground_is_height}

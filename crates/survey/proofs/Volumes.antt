@@ -1,5 +1,5 @@
 -- The faces of a solid's shadow volume, drawn one after another, count what depth-fail counts, and so the strikes.
-use Rattle.std.proofs.Common.{◌≡◌, ℕ, ◌+◌, ◌*◌, ◌/◌, ◌%◌, ◌<◌, ◌≤◌, Bool, true, false, cond, ltb, ℤ, pos, ◌+ℤ◌, Some, None, Option, sym, refl, ap, ◌∙◌, subst, ap₂, add-zero, add-one, arith}
+use Rattle.std.proofs.Common.{◌≡◌, ℕ, ◌+◌, ◌*◌, ◌/◌, ◌%◌, ◌<◌, Bool, true, false, cond, ltb, ℤ, pos, ◌+ℤ◌, Some, None, Option, sym, ap, ◌∙◌, subst, ap₂, add-zero, add-one, arith}
 use Rattle.std.proofs.lemmas.Int.{ints}
 use Rattle.std.proofs.lemmas.Bool.{cond-true, cond-false, lt-ltb}
 use Rattle.algebra.specs.Sums.{sum_z, bracket}
@@ -9,9 +9,9 @@ use Rattle.geometry.specs.Vectors.{V3}
 use Rattle.geometry.specs.Limits.{InLimits, LawfulRun}
 use Rattle.geometry.specs.Strikes.{sunward}
 use Rattle.solids.specs.Solids.{SolidModel, Lawful, places, start_of, end_of}
-use Rattle.volumes.specs.Faces.{Sample, Face, near_cap, far_cap, wall, contribution}
+use Rattle.volumes.specs.Faces.{Face, near_cap, far_cap, wall, contribution}
 use Rattle.volumes.specs.Extent.{extent}
-use Rattle.volumes.specs.Volumes.{corner_of, sunward_at, wall_at, depth_fail, struck}
+use Rattle.volumes.specs.Volumes.{corner_of, sunward_at, wall_at, depth_fail}
 use Rattle.volumes.proofs.Solids.{count_is_right}
 use Rattle.planes.specs.Planes.{PlaneModel, Sound, in_window}
 use Rattle.survey.specs.Drawing.{sample_of, Drawn}

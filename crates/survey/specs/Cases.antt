@@ -1,6 +1,6 @@
 -- Fourteen worked cases: strikes, heights and marks.
 use Rattle.std.specs.Prelude.{◌≡◌, pos, neg_ℤ, Some, None}
-use Rattle.geometry.specs.Vectors.{V3, vector}
+use Rattle.geometry.specs.Vectors.{vector}
 use Rattle.geometry.specs.Cases as strike
 use Rattle.survey.specs.Drawing.{sample_of, laid_at}
 use Rattle.survey.specs.Survey.{mark_of}

@@ -1,5 +1,5 @@
 -- What drawing one face, or laying one triangle, does to a plane.
-use Rattle.std.specs.Prelude.{◌≡◌, ℕ, Bool, cond, ◌||◌, ℤ, pos, ◌+ℤ◌, Some, None, Option}
+use Rattle.std.specs.Prelude.{◌≡◌, ℕ, cond, ◌||◌, ℤ, pos, ◌+ℤ◌, Some, None, Option}
 use Rattle.algebra.specs.Counts.{mod_z}
 use Rattle.algebra.specs.Maxima.{raised_by}
 use Rattle.geometry.specs.Vectors.{V3}

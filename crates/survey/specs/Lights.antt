@@ -1,11 +1,9 @@
 -- The light of a cast, as the code holds it.
-use Rattle.std.specs.Prelude.{◌≡◌, true, false, Result, MatchResult}
+use Rattle.std.specs.Prelude.{◌≡◌, true}
 use Rattle.geometry.specs.Light.{run_of}
 use Rattle.geometry.specs.Limits.{in_run_limits, LawfulRun}
 use Rattle.geometry.specs.Machine.{vector_of}
 use Rattle.geometry.specs.declared.light.Run.{Run}
-use Rattle.geometry.specs.declared.refusal.Refusal.{Refusal}
-use Rattle.geometry.specs.declared.refusal.Refusal.TheVariants as refusal
 use Rattle.volumes.specs.Extent.{extent}
 use Rattle.survey.specs.declared.light.Light.{Light}
 

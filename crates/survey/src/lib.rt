@@ -1,4 +1,6 @@
 // The survey: begin, lay, close, cast, look and draw on any plane with any solid, and the law of what the marks mean.
+#![tactic(auto)]
+
 pub mod casting;
 mod corners;
 pub mod laying;

@@ -11,7 +11,6 @@ use Rattle.volumes.specs.Extent.{extent}
 use Rattle.volumes.specs.Machine.{face_of}
 use Rattle.volumes.specs.Wrapped.{wrapped_face}
 use Rattle.volumes.specs.Near.{Within, AllWithin, NearFace}
-use Rattle.volumes.specs.declared.face.Face.{Face}
 use Rattle.volumes.proofs.Exact.{small}
 use Rattle.volumes.proofs.NearFaces.{near_cap_near, far_cap_near, wall_near, moved_normal}
 

@@ -1,9 +1,6 @@
-use Rattle.std.proofs.Common.{◌≡◌, ◌∙◌}
+use Rattle.std.proofs.Common.{◌∙◌}
 use Rattle.geometry.specs.Light.{run_of}
-use Rattle.volumes.specs.Extent.{extent}
-use Rattle.volumes.specs.Faces.{near_cap, far_cap}
 use Rattle.volumes.specs.Machine.{face_of}
-use Rattle.volumes.specs.Volumes.{corner_of}
 use Rattle.survey.proofs.Volumes.{near_is, far_is, near_drawable, far_drawable, caps_tallied}
 use Rattle.survey.proofs.casting.cast_caps.Goals as goal
 

@@ -1,4 +1,4 @@
-use Rattle.std.proofs.Common.{◌≡◌, ℕ, sym, refl, ◌∙◌, subst, arith}
+use Rattle.std.proofs.Common.{◌≡◌, ℕ, refl, ◌∙◌, subst, arith}
 use Rattle.geometry.specs.Light.{run_of}
 use Rattle.survey.specs.Changes.{Tallied, faces_below}
 use Rattle.survey.proofs.Steps.{tallied_none}

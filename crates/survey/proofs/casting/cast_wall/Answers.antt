@@ -1,4 +1,4 @@
-use Rattle.std.proofs.Common.{◌≡◌, sym, refl, ◌∙◌}
+use Rattle.std.proofs.Common.{refl}
 use Rattle.geometry.specs.Light.{run_of}
 use Rattle.volumes.specs.Machine.{face_of}
 use Rattle.survey.proofs.Volumes.{partner_is, partner_triangle, wall_is, wall_at_drawable, wall_drawn, wall_left_out}

@@ -1,4 +1,4 @@
-use Rattle.std.proofs.Common.{◌≡◌, ◌+◌, ◌*◌, sym, refl, ◌∙◌, add-zero, arith, lit<}
+use Rattle.std.proofs.Common.{◌+◌, ◌*◌, sym, refl, ◌∙◌, add-zero, lit<}
 use Rattle.geometry.specs.Light.{run_of}
 use Rattle.survey.proofs.Volumes.{place_below, start_is, end_is, walls_tallied}
 use Rattle.survey.proofs.casting.cast_walls.Goals as goal

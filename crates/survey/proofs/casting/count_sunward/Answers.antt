@@ -1,4 +1,4 @@
-use Rattle.std.proofs.Common.{◌≡◌, ℕ, ◌+◌, ◌<◌, ◌≤◌, Bool, true, false, sym, refl, ap, ◌∙◌, subst, add-zero, arith}
+use Rattle.std.proofs.Common.{◌≡◌, true, false, sym, ap, ◌∙◌, add-zero, arith}
 use Rattle.geometry.specs.Light.{run_of}
 use Rattle.survey.specs.Changes.{sunward_below}
 use Rattle.survey.proofs.Volumes.{sunward_more}

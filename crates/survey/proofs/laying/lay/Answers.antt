@@ -1,4 +1,4 @@
-use Rattle.std.proofs.Common.{◌≡◌, true, sym, refl, ◌∙◌, arith}
+use Rattle.std.proofs.Common.{◌≡◌, true, sym, refl, ◌∙◌}
 use Rattle.survey.specs.Survey.{fits, laying_of}
 use Rattle.survey.specs.Refusals.{has_triangles}
 use Rattle.survey.proofs.Limits.{passes, has_triangles_lem}

@@ -1,4 +1,4 @@
-use Rattle.std.proofs.Common.{◌≡◌, ℕ, ◌<◌, sym, refl, ◌∙◌, subst, arith, lit<}
+use Rattle.std.proofs.Common.{◌≡◌, ℕ, ◌<◌, refl, ◌∙◌, subst, arith, lit<}
 use Rattle.survey.specs.Changes.{lays_below, Heightened}
 use Rattle.survey.proofs.Limits.{point_in_limits}
 use Rattle.survey.proofs.Steps.{heightened_none, laid_more}

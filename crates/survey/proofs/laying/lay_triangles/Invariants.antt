@@ -1,4 +1,4 @@
-use Rattle.std.proofs.Common.{◌≡◌, ◌≤◌}
+use Rattle.std.proofs.Common.{◌≡◌}
 use Rattle.survey.specs.Changes.{lays_below, Heightened}
 use Rattle.survey.proofs.laying.lay_triangles.Given as goal
 

@@ -1,4 +1,4 @@
-use Rattle.std.proofs.Common.{◌≡◌, ℕ, ◌+◌, ◌/◌, sym, ap, ◌∙◌, arith}
+use Rattle.std.proofs.Common.{ℕ, ◌+◌, ◌/◌, ap, ◌∙◌, arith}
 use Rattle.survey.proofs.Pictures.{length-digit, length-step, few_digits}
 use Rattle.survey.proofs.picture.+digits.Goals as goal
 

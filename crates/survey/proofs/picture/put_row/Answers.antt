@@ -1,4 +1,4 @@
-use Rattle.std.proofs.Common.{◌≡◌, ℕ, List, [], ◌∷◌, sym, ap, ◌∙◌, subst, arith}
+use Rattle.std.proofs.Common.{◌≡◌, ℕ, [], ◌∷◌, subst, arith}
 use Rattle.survey.specs.Survey.{casting_of}
 use Rattle.survey.specs.Picture.{Appended, row_below}
 use Rattle.survey.proofs.Pictures.{length-row, appended_none, appended_pixel}

@@ -1,4 +1,4 @@
-use Rattle.std.proofs.Common.{◌≡◌, ℕ, ◌+◌, ◌*◌, ◌<◌, ◌≤◌, length, sym, ap, ◌∙◌, subst, arith}
+use Rattle.std.proofs.Common.{◌≡◌, ℕ, ◌+◌, ◌*◌, ◌<◌, ◌≤◌, length, subst, arith}
 use Rattle.survey.specs.Survey.{casting_of}
 use Rattle.survey.specs.Picture.{Appended, rows_below}
 use Rattle.survey.proofs.Pictures.{length-rows, row_fits, appended_none, appended_row}

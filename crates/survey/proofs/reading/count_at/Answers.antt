@@ -1,4 +1,4 @@
-use Rattle.std.proofs.Common.{◌≡◌, is_some, Some, sym, ap, ◌∙◌}
+use Rattle.std.proofs.Common.{is_some, ap}
 use Rattle.survey.proofs.Pixels.{count_there}
 use Rattle.survey.proofs.reading.count_at.Goals as goal
 

@@ -1,8 +1,6 @@
-use Rattle.std.proofs.Common.{◌≡◌, ℕ, true, sym, refl, ap, ◌∙◌, subst}
+use Rattle.std.proofs.Common.{◌≡◌, ℕ, true, sym, refl, ap, ◌∙◌}
 use Rattle.planes.specs.Planes.{in_window}
 use Rattle.survey.specs.Survey.{fits, casting_of, mark_of}
-use Rattle.survey.specs.Account.{Told}
-use Rattle.survey.specs.declared.mark.Mark.{Mark}
 use Rattle.survey.proofs.Limits.{passes}
 use Rattle.survey.proofs.Accounts.{told}
 use Rattle.survey.proofs.reading.look.Goals as goal

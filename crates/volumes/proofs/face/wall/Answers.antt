@@ -1,5 +1,5 @@
 use Rattle.std.proofs.Common.{◌≡◌, ◌∙◌, rules}
-use Rattle.geometry.specs.Vectors.{plus, minus, cross}
+use Rattle.geometry.specs.Vectors.{plus, minus}
 use Rattle.geometry.specs.Machine.{vector_of, wrapped3}
 use Rattle.geometry.specs.Units.{point_of}
 use Rattle.geometry.proofs.Exact.{Fits3}
