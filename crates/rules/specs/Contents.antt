@@ -1,11 +1,10 @@
 -- What some lines of a job say together: the set-up of the plane, the tables of the solid, the lays and the casts.
-use Rattle.std.specs.Prelude.{ℕ, List, [], ◌∷◌, ◌++◌, ℤ, pos, negsuc, Some, None, Option}
-use Rattle.geometry.specs.Vectors.{V3, vector}
+use Rattle.std.specs.Prelude.{ℕ, List, [], ◌∷◌, ◌++◌, ℤ, pos, negsuc, Some, None}
+use Rattle.geometry.specs.Vectors.{vector}
 use Rattle.geometry.specs.declared.units.Point.{Point}
 use Rattle.solids.specs.Solids.{SolidModel}
 use Rattle.solids.specs.Tables.{tabled}
 use Rattle.solids.specs.declared.solid.Triangle.{Triangle}
-use Rattle.planes.specs.declared.frame.Cutout.{Cutout}
 use Rattle.survey.specs.Account.{Shadow, Account, all_sunward}
 use Rattle.text.specs.declared.entry.Entry.{Entry}
 use Rattle.text.specs.declared.entry.Entry.TheVariants as entry

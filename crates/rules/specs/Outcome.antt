@@ -1,7 +1,6 @@
 -- What a job comes to: its tables, its plane pixel by pixel, and its picture.
-use Rattle.std.specs.Prelude.{◌≡◌, ℕ, ◌+◌, ◌-◌, ◌*◌, ◌%◌, ◌<◌, true, cond, List, [], ◌∷◌, ◌++◌, length, drop, replicate, ℤ, pos, Some, None, Option}
+use Rattle.std.specs.Prelude.{◌≡◌, ℕ, ◌-◌, ◌*◌, ◌%◌, ◌<◌, true, cond, List, [], ◌++◌, length, drop, replicate, ℤ, pos, Some, None, Option}
 use Rattle.geometry.specs.declared.units.Point.{Point}
-use Rattle.solids.specs.Solids.{SolidModel}
 use Rattle.solids.specs.Tables.{blank_point, blank_triangle}
 use Rattle.solids.specs.declared.solid.Triangle.{Triangle}
 use Rattle.planes.specs.Planes.{PlaneModel, inside, in_window}

@@ -1,6 +1,6 @@
 -- The tests of a line that says something, in the order of their numbers. The tests of a plane's size and its room come at the plan line,
 -- those of a lay or a cast are the survey's own.
-use Rattle.std.specs.Prelude.{ℕ, ◌+◌, ◌*◌, Bool, ◌&&◌, List, [], length, ℤ, pos, negsuc, Some, None, Option, nat_le, nat_lt}
+use Rattle.std.specs.Prelude.{ℕ, ◌+◌, ◌*◌, Bool, ◌&&◌, List, [], length, ℤ, pos, negsuc, None, Option, nat_le, nat_lt}
 use Rattle.geometry.specs.Vectors.{vector}
 use Rattle.geometry.specs.Limits.{between, in_run_limits}
 use Rattle.geometry.specs.declared.refusal.Refusal.{Refusal}

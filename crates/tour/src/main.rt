@@ -1,5 +1,7 @@
 // A tour of the library on a small job: which points of a flat roof does the south face of a chimney shade, with the sun at a given
 // bearing? It prints each step that it takes.
+#![tactic(auto)]
+
 mod roof;
 mod shade;
 
