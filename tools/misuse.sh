@@ -6,7 +6,6 @@ cd "$(dirname "$0")/.."
 work=$(mktemp -d) || exit 2
 trap 'rm -rf "$work"' EXIT
 cp -r crates crates.txt "$work"/
-[ -d target ] && cp -r target "$work"/
 deps=$(grep -oE '^(algebra|geometry|solids|volumes|planes|survey)' crates.txt | tr '\n' ' ')
 echo "misuse: $deps" >>"$work"/crates.txt
 mkdir -p "$work"/crates/misuse/src
@@ -14,7 +13,7 @@ ok=0 bad=0
 for case in tools/misuse/*.rt.txt; do
   want=$(sed -n '1s,^// expects: ,,p' "$case")
   cp "$case" "$work"/crates/misuse/src/lib.rt
-  if out=$(cd "$work" && rt dev misuse 2>&1); then
+  if out=$(cd "$work/crates/misuse" && rt check 2>&1); then
     echo "TAKEN $case"
     bad=$((bad + 1))
   elif grep -qF -- "$want" <<<"$out"; then

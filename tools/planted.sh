@@ -7,7 +7,6 @@ cd "$(dirname "$0")/.."
 work=$(mktemp -d) || exit 2
 trap 'rm -rf "$work"' EXIT
 cp -r crates crates.txt "$work"/
-[ -d target ] && cp -r target "$work"/
 ok=0 bad=0
 for edit in tools/planted/*/*.edit; do
   crate=$(basename "$(dirname "$edit")")
@@ -27,7 +26,7 @@ P
     bad=$((bad + 1))
     continue
   fi
-  out=$(cd "$work" && rt dev "$crate" 2>&1)
+  out=$(cd "$work/crates/$crate" && rt check 2>&1)
   if grep -q "^logic=proved" <<<"$(grep "^logic=" <<<"$out" | tail -1)"; then
     echo "SURVIVED $edit"
     bad=$((bad + 1))

@@ -82,7 +82,7 @@ set_past line kept s xs es rest = set-++ s (map line xs) es ∙ ap (λ (t : Setu
 
 -- a set-up with another frame
 abbrev framed_by : Setup → Option Cutout → Setup
-framed_by s o = record { width = s.width; rows = s.rows; kind = s.kind; ground = s.ground; cutout = o }
+framed_by s o = record { width = s.width; rows = s.rows; kind = s.kind; ground_height = s.ground_height; cutout = o }
 
 set_frame : (s : Setup) (o : Option Cutout) → set_after (framed_by s None) (frame_lines o) ≡ framed_by s o
 set_frame s None = refl
@@ -180,7 +180,7 @@ job_of es =
       width = (setup_of es).width;
       rows = (setup_of es).rows;
       kind = (setup_of es).kind;
-      ground = (setup_of es).ground;
+      ground = (setup_of es).ground_height;
       frame = (setup_of es).cutout;
       corners = gathered corner_back es;
       faces = gathered face_back es;
@@ -200,7 +200,7 @@ job_back j =
       width = (s i).width;
       rows = (s i).rows;
       kind = (s i).kind;
-      ground = (s i).ground;
+      ground = (s i).ground_height;
       frame = (s i).cutout;
       corners = cs i;
       faces = fs i;

@@ -5,7 +5,7 @@ use Rattle.geometry.specs.declared.units.Point.{Point}
 use Rattle.solids.specs.Solids.{SolidModel}
 use Rattle.solids.specs.Tables.{tabled}
 use Rattle.solids.specs.declared.solid.Triangle.{Triangle}
-use Rattle.survey.specs.Account.{Shadow, Account, all_sunward}
+use Rattle.survey.specs.Account.{Shadow, Account, account, all_sunward}
 use Rattle.text.specs.declared.entry.Entry.{Entry}
 use Rattle.text.specs.declared.entry.Entry.TheVariants as entry
 use Rattle.text.specs.declared.entry.PlaneKind.TheVariants.{Line}
@@ -81,13 +81,13 @@ total_of es = all_sunward (gathered (cast_in (solid_of [] es)) es)
 
 -- ---- the set-up: what the last such line says. A job has one plan and one ground, and one frame at most
 abbrev pub blank : Setup
-blank = record { width = pos 0; rows = pos 0; kind = Line; ground = pos 0; cutout = None }
+blank = record { width = pos 0; rows = pos 0; kind = Line; ground_height = pos 0; cutout = None }
 
 abbrev pub set_by : Setup → Entry → Setup
-set_by s (entry.Plan w r k) = record { width = w; rows = r; kind = k; ground = s.ground; cutout = s.cutout }
-set_by s (entry.Ground g) = record { width = s.width; rows = s.rows; kind = s.kind; ground = g; cutout = s.cutout }
+set_by s (entry.Plan w r k) = record { width = w; rows = r; kind = k; ground_height = s.ground_height; cutout = s.cutout }
+set_by s (entry.Ground g) = record { width = s.width; rows = s.rows; kind = s.kind; ground_height = g; cutout = s.cutout }
 set_by s (entry.Frame c0 r0 c1 r1) =
-    record { width = s.width; rows = s.rows; kind = s.kind; ground = s.ground; cutout = Some (record { c0 = c0; r0 = r0; c1 = c1; r1 = r1 }) }
+    record { width = s.width; rows = s.rows; kind = s.kind; ground_height = s.ground_height; cutout = Some (record { c0 = c0; r0 = r0; c1 = c1; r1 = r1 }) }
 set_by s (entry.Corner x y z) = s
 set_by s (entry.Face a b c) = s
 set_by s (entry.Lay w) = s
@@ -102,4 +102,4 @@ setup_of es = set_after blank es
 
 -- ---- the account of a survey that does what the lines say, with the solid S
 abbrev pub account_of : SolidModel → List Entry → Account
-account_of S es = record { ground = (setup_of es).ground; lays = gathered (lay_in S) es; casts = gathered (cast_in S) es }
+account_of S es = account (setup_of es).ground_height (gathered (lay_in S) es) (gathered (cast_in S) es)

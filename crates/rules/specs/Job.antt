@@ -71,7 +71,7 @@ abbrev pub spelling : Job → List ℕ
 spelling j = written (lines_of j)
 
 abbrev pub setup : Job → Setup
-setup j = record { width = j.width; rows = j.rows; kind = j.kind; ground = j.ground; cutout = j.frame }
+setup j = record { width = j.width; rows = j.rows; kind = j.kind; ground_height = j.ground; cutout = j.frame }
 
 -- ---- what is asked of it
 -- each number has at most six digits

@@ -35,7 +35,7 @@ through (Some cut) m = framed m cut
 
 -- as the survey begins: the ground everywhere, and nothing counted
 abbrev pub begun : Setup → PlaneModel
-begun s = through s.cutout (rowwise (modulus_of s.kind) (size_of s.width) (size_of s.rows) (λ at. s.ground) (λ at. 0))
+begun s = through s.cutout (rowwise (modulus_of s.kind) (size_of s.width) (size_of s.rows) (λ at. s.ground_height) (λ at. 0))
 
 -- As the survey of an account ends: in the window each pixel has the height of its receiver, which is the greatest of the ground and all
 -- that is laid there, and counts how often that receiver is struck, modulo the plane's modulus. Outside it is as it was begun.

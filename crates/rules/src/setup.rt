@@ -11,7 +11,7 @@ pub struct Setup {
     pub width: i32,
     pub rows: i32,
     pub kind: PlaneKind,
-    pub ground: i32,
+    pub ground_height: i32,
     pub cutout: Option<Cutout>,
 }
 
@@ -24,7 +24,7 @@ impl Setup {
             width: 0,
             rows: 0,
             kind: PlaneKind::Line,
-            ground: 0,
+            ground_height: 0,
             cutout: None,
         }
     }
@@ -38,21 +38,21 @@ impl Setup {
                 width,
                 rows,
                 kind,
-                ground: self.ground,
+                ground_height: self.ground_height,
                 cutout: self.cutout,
             },
             Entry::Ground { height } => Setup {
                 width: self.width,
                 rows: self.rows,
                 kind: self.kind,
-                ground: height,
+                ground_height: height,
                 cutout: self.cutout,
             },
             Entry::Frame { c0, r0, c1, r1 } => Setup {
                 width: self.width,
                 rows: self.rows,
                 kind: self.kind,
-                ground: self.ground,
+                ground_height: self.ground_height,
                 cutout: Some(Cutout {
                     c0: c0 as i64,
                     r0: r0 as i64,

@@ -23,6 +23,10 @@ pub record Account : Type 0 where
   pub lays : List SolidModel
   pub casts : List Shadow
 
+-- the account of a ground, of solids laid and of solids cast
+abbrev pub account : ℤ → List SolidModel → List Shadow → Account
+account g laid cast = record { ground = g; lays = laid; casts = cast }
+
 abbrev pub bare : ℤ → Account
 bare g = record { ground = g; lays = []; casts = [] }
 

@@ -8,7 +8,7 @@ use Rattle.planes.specs.Planes.{PlaneModel, Sound, in_window}
 use Rattle.survey.specs.Survey.{SurveyModel, mark_of}
 use Rattle.survey.specs.Refusals.{is_ground}
 use Rattle.survey.specs.Changes.{Laid, Shadowed, Begun}
-use Rattle.survey.specs.Account.{Shadow, Account, Stands, Told}
+use Rattle.survey.specs.Account.{Shadow, Account, account, Stands, Told}
 
 -- An attempt to lay: accepted, of a solid; or refused, for a reason, whatever solid or plane it was given.
 pub data LayAttempt : Type 0 where
@@ -50,7 +50,7 @@ accepted_casts (Casts S d ∷ qs) = record { solid = S; run = d } ∷ accepted_c
 accepted_casts (CastRefused why ∷ qs) = accepted_casts qs
 
 abbrev pub account_of : ℤ → List LayAttempt → List CastAttempt → Account
-account_of g qs rs = record { ground = g; lays = accepted_lays qs; casts = accepted_casts rs }
+account_of g qs rs = account g (accepted_lays qs) (accepted_casts rs)
 
 -- A whole survey: begun on the plane m with the ground g, then the lays qs, then the casts rs. It ends as t with the plane n.
 pub record Survey (g : ℤ) (qs : List LayAttempt) (rs : List CastAttempt) (m n : PlaneModel) (t : SurveyModel) : Type 0 where
