@@ -1,5 +1,7 @@
 // Runs many cases against the library: each line of the standard input is a call, its name and its numbers, and a line is written for
 // each with what the call answered. The expected answers come from an independent program; tools/vectors.py makes the two files.
+#![tactic(auto)]
+
 mod faces;
 mod light;
 mod planes;
