@@ -6,7 +6,7 @@ cd "$(dirname "$0")/.."
 work=$(mktemp -d) || exit 2
 trap 'rm -rf "$work"' EXIT
 cp -r crates crates.txt "$work"/
-deps=$(grep -oE '^(algebra|geometry|solids|volumes|planes|survey)' crates.txt | tr '\n' ' ')
+deps=$(grep -oE '^(algebra|geometry|solids|volumes|planes|survey):' crates.txt | tr -d ':' | tr '\n' ' ')
 echo "misuse: $deps" >>"$work"/crates.txt
 mkdir -p "$work"/crates/misuse/src
 ok=0 bad=0

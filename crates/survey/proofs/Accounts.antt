@@ -17,7 +17,7 @@ use Rattle.survey.specs.Changes.{lays_of, Laid, Shadowed, Begun}
 use Rattle.survey.specs.Account.{Shadow, Account, bare, with_lay, all_lays, all_strikes, all_sunward, receiver_height, strikes_at, total_of, Stands, Told, Undisturbed, CarriesLay, CarriesCast}
 use Rattle.survey.specs.declared.mark.Mark.{Mark}
 use Rattle.survey.specs.declared.mark.Mark.TheVariants.{Shaded, Unsure, Lit}
-use Rattle.survey.proofs.Pixels.{same_numbers, same_window}
+use Rattle.survey.proofs.Pixels.{same_numbers_lem, same_window}
 
 -- ---- one more in a list
 pub all_lays-more : (Ss : List SolidModel) (S : SolidModel) (p : Sample) → all_lays (Ss ++ (S ∷ [])) p ≡ all_lays Ss p ++ lays_of S p
@@ -44,7 +44,7 @@ strikes_few (c ∷ cs) P =
 -- a plane that is wiped holds the bare ground
 pub begun_stands : (m n : PlaneModel) (g : ℤ) (s : SurveyModel) → ((k l : ℕ) → in_window m k l ≡ true → inside m k l ≡ true) → is_height g ≡ true → Begun m g s n → Stands (bare g) n s
 begun_stands m n g s within high b = record {
-  shape = b.shape ∙ sym (same_numbers m n b.wiped.shape);
+  shape = b.shape ∙ sym (same_numbers_lem m n b.wiped.shape);
   heights = λ k l w. b.wiped.heights k l ∙ cond-true (is_height g && inside m k l) g (m.height k l) (all k l w);
   counts = λ k l w. b.wiped.counts k l ∙ cond-true (is_height g && inside m k l) 0 (m.count k l) (all k l w) ∙ sym (zero-mod n.modulus);
   total = b.total;
@@ -64,7 +64,7 @@ unstruck a s P z e = let few : all_strikes a.casts P ≤ all_sunward a.casts = s
 -- laying
 pub laid_stands : (m n : PlaneModel) (S : SolidModel) (s : SurveyModel) → s.total ≡ 0 → Laid m S n → CarriesLay s m S n
 laid_stands m n S s none laid a st = record {
-  shape = st.shape ∙ sym (same_numbers m n laid.shape);
+  shape = st.shape ∙ sym (same_numbers_lem m n laid.shape);
   heights = λ k l w.
       let v : in_window m k l ≡ true = sym (same_window m n laid.shape k l) ∙ w in
       laid.heights k l
@@ -83,7 +83,7 @@ laid_stands m n S s none laid a st = record {
 -- casting
 pub cast_stands : (m n : PlaneModel) (S : SolidModel) (d : V3) (s t : SurveyModel) → t.shape ≡ s.shape → t.total ≡ s.total + sunward_total S d → Shadowed m S d n → CarriesCast s m S d t n
 cast_stands m n S d s t shape total shadowed a st = record {
-  shape = shape ∙ st.shape ∙ sym (same_numbers m n shadowed.faces.shape);
+  shape = shape ∙ st.shape ∙ sym (same_numbers_lem m n shadowed.faces.shape);
   heights = λ k l w.
       let v : in_window m k l ≡ true = sym (same_window m n shadowed.faces.shape k l) ∙ w in
       shadowed.faces.heights k l ∙ st.heights k l v;

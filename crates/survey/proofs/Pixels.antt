@@ -19,8 +19,8 @@ same_trans m n o p q = record {
 }
 
 -- planes of one shape have the same numbers, and the same window
-pub same_numbers : (m n : PlaneModel) → SameShape m n → shape_of n ≡ shape_of m
-same_numbers m n p =
+pub same_numbers_lem : (m n : PlaneModel) → SameShape m n → shape_of n ≡ shape_of m
+same_numbers_lem m n p =
     let a = p.width in
     let b = p.rows in
     let c = p.modulus in

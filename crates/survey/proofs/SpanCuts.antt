@@ -62,8 +62,8 @@ falling (negsuc m) b i A B h k e f =
 
 -- ---- the five ways out of `cut`: p is `positive a b i`
 module _ (lo hi i q : ℕ) (p : Bool) where
-  pub all_after : p ≡ ltb q i → q < lo → within lo hi i ≡ (within lo hi i && p)
-  all_after e h = grind (arith, nat_tests)
+  pub all_after_lem : p ≡ ltb q i → q < lo → within lo hi i ≡ (within lo hi i && p)
+  all_after_lem e h = grind (arith, nat_tests)
 
   pub some_after : p ≡ ltb q i → lo ≤ q → within (q + 1) hi i ≡ (within lo hi i && p)
   some_after e h = grind (arith, nat_tests)
