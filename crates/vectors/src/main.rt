@@ -4,7 +4,7 @@
 
 mod faces;
 mod light;
-mod planes;
+mod plane_cases;
 mod strikes;
 mod tables;
 mod words;
@@ -29,9 +29,9 @@ fn answer(heap: Global, line: &str) -> anyhow::Result<String> {
         "load" => tables::load(heap, &mut numbers),
         "pair" => tables::pair(heap, &mut numbers),
         "sizes" => tables::sizes(heap, &mut numbers),
-        "line" => planes::linear(heap, &mut numbers),
-        "pack" => planes::packed(heap, &mut numbers),
-        "check" => planes::check(heap, &mut numbers),
+        "line" => plane_cases::linear(heap, &mut numbers),
+        "pack" => plane_cases::packed(heap, &mut numbers),
+        "check" => plane_cases::check(heap, &mut numbers),
         _ => Err(anyhow!("an unknown call")),
     }
 }
