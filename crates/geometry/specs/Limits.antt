@@ -6,12 +6,15 @@ abbrev pub between : ℤ → ℤ → ℤ → Bool
 between low high a = int_le low a && int_le a high
 
 -- ---- coordinates: from −8192 to 8192; the z of a receiver, which may lie one step above a corner, up to 8193
+abbrev pub in_limits_under : ℤ → V3 → Bool
+in_limits_under top u =
+    between (neg_ℤ (pos 8192)) (pos 8192) u.x && between (neg_ℤ (pos 8192)) (pos 8192) u.y && between (neg_ℤ (pos 8192)) top u.z
+
 abbrev pub in_limits : V3 → Bool
-in_limits u = between (neg_ℤ (pos 8192)) (pos 8192) u.x && between (neg_ℤ (pos 8192)) (pos 8192) u.y && between (neg_ℤ (pos 8192)) (pos 8192) u.z
+in_limits = in_limits_under (pos 8192)
 
 abbrev pub in_receiver_limits : V3 → Bool
-in_receiver_limits u =
-    between (neg_ℤ (pos 8192)) (pos 8192) u.x && between (neg_ℤ (pos 8192)) (pos 8192) u.y && between (neg_ℤ (pos 8192)) (pos 8193) u.z
+in_receiver_limits = in_limits_under (pos 8193)
 
 -- a corner's coordinates are within their limits
 pub record InLimits (u : V3) : Type 0 where

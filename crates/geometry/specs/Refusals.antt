@@ -1,5 +1,5 @@
 -- The numbers of refusals.
-use Rattle.std.specs.Prelude.{ℕ}
+use Rattle.std.specs.Prelude.{ℕ, List, ◌++◌, decimal, codes}
 use Rattle.geometry.specs.declared.refusal.Refusal.{Refusal}
 use Rattle.geometry.specs.declared.refusal.Refusal.TheVariants as refusal
 
@@ -20,3 +20,7 @@ number_of refusal.Fields = 12
 number_of refusal.Field = 13
 number_of refusal.Room = 14
 number_of refusal.Picture = 15
+
+-- the bytes that tell it: the word `refused`, a space and the number
+abbrev pub told : Refusal → List ℕ
+told refusal = codes "refused " ++ decimal (number_of refusal)

@@ -1,11 +1,11 @@
-// The strike test in numbers, for callers in C: the static library of the crate geometry_c exports it, and include/hovantsi.h declares it.
+// The strike test in numbers, for callers in C, whose interface asks for numbers alone: the static library of the crate geometry_c exports it, and include/hovantsi.h declares it.
 ghost use Rattle.std.specs.Prelude.{◌≡◌};
 ghost use Rattle.geometry.specs.Vectors.{vector};
 ghost use Rattle.geometry.specs.Answers.{struck_or_refused, told_in_c};
 
+use crate::facet::Facet;
 use crate::light::Run;
 use crate::refusal::Refusal;
-use crate::strike::strike;
 use crate::units::Point;
 
 // The answer as a number.
@@ -15,7 +15,7 @@ fn told(answer: Result<bool, Refusal>) -> u8
     match answer {
         Ok(false) => 0,
         Ok(true) => 1,
-        Err(refusal) => refusal.number(),
+        Err(refusal) => refusal.into(),
     }
 }
 
@@ -43,6 +43,6 @@ pub fn hovantsi_strike(
     let a = Point::new(ax, ay, az);
     let b = Point::new(bx, by, bz);
     let c = Point::new(cx, cy, cz);
-    let p = Point::new(px, py, pz);
-    told(strike(run, a, b, c, p))
+    let facet = Facet { a, b, c };
+    told(facet.strike(run, Point::new(px, py, pz)))
 }

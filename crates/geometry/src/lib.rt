@@ -3,6 +3,7 @@
 #![tactic(auto)]
 
 pub mod export;
+pub mod facet;
 pub mod light;
 pub mod limits;
 pub mod refusal;

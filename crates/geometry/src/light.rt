@@ -1,9 +1,7 @@
 // The light: the way it travels, and the way to the sun.
-ghost use Rattle.std.specs.Prelude.{◌≡◌, ◌&&◌, pos, neg_ℤ};
-ghost use Rattle.geometry.specs.Limits.{between};
+ghost use Rattle.std.specs.Prelude.{◌≡◌};
 ghost use Rattle.geometry.specs.Light.{turned};
 
-use crate::limits::is_between;
 use crate::refusal::Refusal;
 
 // The way the light travels. Within its limits dx and dy are from -1024 to 1024 and dz is from -1024 to -1: the light falls.
@@ -23,25 +21,17 @@ pub struct Bearing {
 }
 
 impl Bearing {
-    // Whether the run that it turns into is within its limits.
-    fn is_lawful(self) -> bool
-        ensures { result ≡ (between (neg_ℤ (pos 1024)) (pos 1024) self.dx && between (neg_ℤ (pos 1024)) (pos 1024) self.dy && between (pos 1) (pos 1024) self.dz) }
-    {
-        is_between(-1024, 1024, self.dx)
-            && is_between(-1024, 1024, self.dy)
-            && is_between(1, 1024, self.dz)
-    }
-
     // The run of the light that comes from there, or a refusal where that is outside its limits.
     pub fn turn(self) -> Result<Run, Refusal>
         ensures { result ≡ turned self }
     {
-        if self.is_lawful() {
-            Ok(Run {
-                dx: -self.dx,
-                dy: -self.dy,
-                dz: -self.dz,
-            })
+        let run = Run {
+            dx: self.dx.wrapping_neg(),
+            dy: self.dy.wrapping_neg(),
+            dz: self.dz.wrapping_neg(),
+        };
+        if run.is_lawful() {
+            Ok(run)
         } else {
             Err(Refusal::Run)
         }

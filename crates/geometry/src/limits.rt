@@ -1,6 +1,6 @@
 // The limits of coordinates and runs.
 ghost use Rattle.std.specs.Prelude.{◌≡◌};
-ghost use Rattle.geometry.specs.Limits.{between, in_limits, in_receiver_limits, in_run_limits};
+ghost use Rattle.geometry.specs.Limits.{between, in_limits_under, in_limits, in_receiver_limits, in_run_limits};
 ghost use Rattle.geometry.specs.Units.{point_of};
 ghost use Rattle.geometry.specs.Light.{run_of};
 
@@ -15,22 +15,27 @@ pub fn is_between(low: i64, high: i64, number: i64) -> bool
 }
 
 impl Point {
+    // Whether each coordinate is from -8192 to 8192, but for z, which may be as high as `top`.
+    fn is_under(self, top: i64) -> bool
+        ensures { result ≡ in_limits_under top (point_of self) }
+    {
+        is_between(-8192, 8192, self.x.0)
+            && is_between(-8192, 8192, self.y.0)
+            && is_between(-8192, top, self.z.0)
+    }
+
     // Whether each coordinate is within the limits of a solid's corner.
     pub fn is_corner(self) -> bool
         ensures { result ≡ in_limits (point_of self) }
     {
-        is_between(-8192, 8192, self.x.0)
-            && is_between(-8192, 8192, self.y.0)
-            && is_between(-8192, 8192, self.z.0)
+        self.is_under(8192)
     }
 
     // Whether each coordinate is within the limits of a receiver, which may lie one step higher than a corner.
     pub fn is_receiver(self) -> bool
         ensures { result ≡ in_receiver_limits (point_of self) }
     {
-        is_between(-8192, 8192, self.x.0)
-            && is_between(-8192, 8192, self.y.0)
-            && is_between(-8192, 8193, self.z.0)
+        self.is_under(8193)
     }
 }
 

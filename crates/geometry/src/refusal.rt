@@ -1,6 +1,9 @@
 // Why a call refuses.
-ghost use Rattle.std.specs.Prelude.{◌≡◌};
-ghost use Rattle.geometry.specs.Refusals.{number_of};
+ghost use Rattle.std.specs.Prelude.{◌≡◌, Some};
+ghost use Rattle.geometry.specs.Refusals.{number_of, told};
+
+use std::error::Error;
+use std::fmt;
 
 // One case for each reason, with the number that stands for it in the program's output and towards C. docs/REFUSALS.md says which
 // call gives which, and in what order a call tests them.
@@ -38,11 +41,22 @@ pub enum Refusal {
     Picture = 15,
 }
 
-impl Refusal {
-    // The number that stands for the refusal.
-    pub fn number(self) -> u8
-        ensures { result ≡ number_of self }
-    {
-        self as u8
+// The number that stands for the refusal.
+impl From<Refusal> for u8 {
+    ghost from_gives = { λ refusal number. number ≡ number_of refusal };
+
+    fn from(refusal: Refusal) -> u8 {
+        refusal as u8
     }
 }
+
+// The word `refused`, and the number.
+impl fmt::Display for Refusal {
+    ghost output = { λ refusal. Some (told refusal) };
+
+    fn fmt<W: fmt::Write>(&self, f: &mut fmt::Formatter<W>) -> fmt::Result {
+        write!(f, "refused {}", u8::from(*self))
+    }
+}
+
+impl Error for Refusal {}

@@ -4,9 +4,30 @@ ghost use Rattle.std.specs.Prelude.{◌≡◌, ◌+ℤ◌, ◌-ℤ◌, ◌*ℤ�
 ghost use Rattle.std.specs.Int.{int_wrap, w64};
 ghost use Rattle.geometry.specs.Vectors as exact;
 ghost use Rattle.geometry.specs.Machine.{vector_of, wrapped3};
+ghost use Rattle.geometry.specs.Units.{point_of};
+ghost use Rattle.geometry.specs.Light.{run_of};
+
+use crate::light::Run;
+use crate::units::Point;
 
 // A point or a direction, by its parts x, y and z.
 pub type Vector = [i64; 3];
+
+impl From<Point> for Vector {
+    ghost from_gives = { λ point v. vector_of v ≡ point_of point };
+
+    fn from(point: Point) -> Vector {
+        [point.x.0, point.y.0, point.z.0]
+    }
+}
+
+impl From<Run> for Vector {
+    ghost from_gives = { λ run v. vector_of v ≡ run_of run };
+
+    fn from(run: Run) -> Vector {
+        [run.dx, run.dy, run.dz]
+    }
+}
 
 // The vector from v to u.
 pub fn difference(u: Vector, v: Vector) -> Vector

@@ -18,11 +18,10 @@ use crate::raster::draw_face;
 use crate::state::Casting;
 use geometry::light::Run;
 use geometry::refusal::Refusal;
-use geometry::strike::is_sunward;
 use geometry::units::Point;
 use planes::plane::Plane;
 use solids::solid::Solid;
-use volumes::face::{far_cap, near_cap, wall};
+use volumes::face::Face;
 
 // The sunward triangles that a survey may cast in all.
 const MOST: u64 = 1_000_000;
@@ -32,8 +31,7 @@ fn is_sunward_at<S: Solid>(solid: &S, run: Run, number: usize) -> bool
     requires { (LawfulRun (run_of run)) × (number < (S.Solid.model solid.now).triangles) }
     ensures { result ≡ sunward_at (S.Solid.model solid.now) (run_of run) number }
 {
-    let corners = corners_of(solid, number);
-    is_sunward(run, corners.a, corners.b, corners.c)
+    corners_of(solid, number).is_sunward(run)
 }
 
 // How many triangles of a solid are sunward.
@@ -57,11 +55,8 @@ fn cast_caps<P: Plane, S: Solid>(plane: &mut P, solid: &S, light: Light, number:
     ensures names { P.Plane.names plane.new ≡ P.Plane.names plane.old }
 {
     let corners = corners_of(solid, number);
-    draw_face(plane, &near_cap(corners.a, corners.b, corners.c));
-    draw_face(
-        plane,
-        &far_cap(corners.a, corners.b, corners.c, light.extent),
-    );
+    draw_face(plane, &Face::near_cap(corners));
+    draw_face(plane, &Face::far_cap(corners, light.extent));
 }
 
 // Draws the wall on the side at that place, from u to v, if the side is on the silhouette: if its partner's triangle is not sunward.
@@ -79,7 +74,7 @@ fn cast_wall<P: Plane, S: Solid>(
 {
     let partner = solid.partner(place).unwrap();
     if !is_sunward_at(solid, light.run, partner / 3) {
-        draw_face(plane, &wall(u, v, light.extent));
+        draw_face(plane, &Face::wall(u, v, light.extent));
     }
 }
 

@@ -3,16 +3,8 @@ ghost use Rattle.std.specs.Prelude.{◌≡◌, ◌<◌};
 ghost use Rattle.geometry.specs.Units.{point_of};
 ghost use Rattle.volumes.specs.Volumes.{corner_of};
 
-use geometry::units::Point;
+use geometry::facet::Facet;
 use solids::solid::Solid;
-
-// Three corners, in the order of their triangle.
-#[derive(Clone, Copy)]
-pub(crate) struct Facet {
-    pub(crate) a: Point,
-    pub(crate) b: Point,
-    pub(crate) c: Point,
-}
 
 // The corners of a triangle of a solid.
 pub(crate) fn corners_of<S: Solid>(solid: &S, number: usize) -> Facet

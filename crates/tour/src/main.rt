@@ -5,18 +5,27 @@
 mod roof;
 mod shade;
 
+use geometry::facet::Facet;
 use geometry::light::Bearing;
-use shade::Face;
+use geometry::units::Point;
 
 // The chimney's south face is two triangles, their outside to the south (y grows southwards).
-fn faces() -> [Face; 2] {
-    let foot_west = [64, 64, 0];
-    let foot_east = [96, 64, 0];
-    let top_west = [64, 64, 160];
-    let top_east = [96, 64, 160];
+fn faces() -> [Facet; 2] {
+    let foot_west = Point::new(64, 64, 0);
+    let foot_east = Point::new(96, 64, 0);
+    let top_west = Point::new(64, 64, 160);
+    let top_east = Point::new(96, 64, 160);
     [
-        Face::new(foot_west, top_east, foot_east),
-        Face::new(foot_west, top_west, top_east),
+        Facet {
+            a: foot_west,
+            b: top_east,
+            c: foot_east,
+        },
+        Facet {
+            a: foot_west,
+            b: top_west,
+            c: top_east,
+        },
     ]
 }
 
@@ -36,7 +45,7 @@ fn tour(rt: &HostRuntime) -> anyhow::Result<()> {
     let run = match bearing.turn() {
         Ok(run) => run,
         Err(refusal) => {
-            println!(rt; "refused {}", refusal.number())?;
+            println!(rt; "{refusal}")?;
             return Ok(());
         }
     };

@@ -86,7 +86,7 @@ fn show_pixel<P: Plane>(
             let text = letter(mark);
             println!(rt; "look at column {i}, row {j}: {text}, count {count}, total {total}")?;
         }
-        Err(refusal) => println!(rt; "look at column {i}, row {j}: refused {}", refusal.number())?,
+        Err(refusal) => println!(rt; "look at column {i}, row {j}: {refusal}")?,
     }
     Ok(())
 }
@@ -94,7 +94,7 @@ fn show_pixel<P: Plane>(
 fn tell(rt: &HostRuntime, call: &str, answer: Result<(), Refusal>) -> anyhow::Result<()> {
     match answer {
         Ok(()) => println!(rt; "{call}: done")?,
-        Err(refusal) => println!(rt; "{call}: refused {}", refusal.number())?,
+        Err(refusal) => println!(rt; "{call}: {refusal}")?,
     }
     Ok(())
 }
@@ -104,7 +104,7 @@ fn survey<P: Plane, S: Solid>(rt: &HostRuntime, plane: &mut P, solid: &S) -> any
     let laying = match begin(plane, Step(0)) {
         Ok(laying) => laying,
         Err(refusal) => {
-            println!(rt; "begin: refused {}", refusal.number())?;
+            println!(rt; "begin: {refusal}")?;
             return Ok(());
         }
     };

@@ -1,27 +1,10 @@
 // Faces and points of the tour, and what the strike test says of them.
+use geometry::facet::Facet;
 use geometry::light::Run;
 use geometry::sign::Sign;
-use geometry::strike::{is_sunward, normal, plane_side, strike};
+use geometry::strike::plane_side;
 use geometry::units::{Column, Point, Row, Step};
 use geometry::vector::{Vector, cross, difference};
-
-// A triangle, its outside where its corners turn against the clock.
-#[derive(Clone, Copy)]
-pub struct Face {
-    a: Point,
-    b: Point,
-    c: Point,
-}
-
-impl Face {
-    pub(crate) fn new(a: [i64; 3], b: [i64; 3], c: [i64; 3]) -> Face {
-        Face {
-            a: Point::new(a[0], a[1], a[2]),
-            b: Point::new(b[0], b[1], b[2]),
-            c: Point::new(c[0], c[1], c[2]),
-        }
-    }
-}
 
 fn show_vector(rt: &HostRuntime, name: &str, v: Vector) -> anyhow::Result<()> {
     println!(rt; "  {name} {} {} {}", v[0], v[1], v[2])?;
@@ -29,13 +12,13 @@ fn show_vector(rt: &HostRuntime, name: &str, v: Vector) -> anyhow::Result<()> {
 }
 
 // A face's corners and normal, and whether it is turned to the light.
-pub(crate) fn show_face(rt: &HostRuntime, run: Run, face: Face) -> anyhow::Result<()> {
+pub(crate) fn show_face(rt: &HostRuntime, run: Run, face: Facet) -> anyhow::Result<()> {
     println!(rt; "A face:")?;
-    show_vector(rt, "corner", face.a.vector())?;
-    show_vector(rt, "corner", face.b.vector())?;
-    show_vector(rt, "corner", face.c.vector())?;
-    show_vector(rt, "normal", normal(face.a, face.b, face.c))?;
-    let turned = if is_sunward(run, face.a, face.b, face.c) {
+    show_vector(rt, "corner", face.a.into())?;
+    show_vector(rt, "corner", face.b.into())?;
+    show_vector(rt, "corner", face.c.into())?;
+    show_vector(rt, "normal", face.normal())?;
+    let turned = if face.is_sunward(run) {
         "sunward"
     } else {
         "not sunward"
@@ -54,18 +37,18 @@ fn letter(side: Sign) -> &'static str {
 
 // The side of the point at the plane through the side from u to v along the light.
 fn along(run: Run, u: Point, v: Point, p: Point) -> &'static str {
-    let u = u.vector();
-    let wall = cross(run.vector(), difference(v.vector(), u));
-    letter(plane_side(wall, u, p.vector()))
+    let u = Vector::from(u);
+    let wall = cross(run.into(), difference(v.into(), u));
+    letter(plane_side(wall, u, p.into()))
 }
 
 // The four sides of a point at a face, and whether the face strikes it.
-fn show_strike(rt: &HostRuntime, run: Run, face: Face, p: Point) -> anyhow::Result<()> {
-    let front = letter(plane_side(normal(face.a, face.b, face.c), face.a.vector(), p.vector()));
+fn show_strike(rt: &HostRuntime, run: Run, face: Facet, p: Point) -> anyhow::Result<()> {
+    let front = letter(plane_side(face.normal(), face.a.into(), p.into()));
     let ab = along(run, face.a, face.b, p);
     let bc = along(run, face.b, face.c, p);
     let ca = along(run, face.c, face.a, p);
-    let answer = match strike(run, face.a, face.b, face.c, p) {
+    let answer = match face.strike(run, p) {
         Ok(true) => "struck",
         Ok(false) => "not struck",
         Err(_) => "refused",
@@ -75,7 +58,7 @@ fn show_strike(rt: &HostRuntime, run: Run, face: Face, p: Point) -> anyhow::Resu
 }
 
 // The points of the roof, one in the middle of each pixel, row by row from the north.
-pub(crate) fn show_points(rt: &HostRuntime, run: Run, faces: &[Face]) -> anyhow::Result<()> {
+pub(crate) fn show_points(rt: &HostRuntime, run: Run, faces: &[Facet]) -> anyhow::Result<()> {
     for j in 0..5u16 {
         for i in 4..7u16 {
             let x = Column(i).sample();

@@ -1,11 +1,12 @@
 // Cases of faces at a sample: how they cover it, and what they raise it to.
 use crate::words::Numbers;
 use anyhow::anyhow;
+use geometry::facet::Facet;
 use geometry::units::Step;
 use std::alloc::Global;
 use volumes::cover::{Cover, Sample};
 use volumes::face::Face;
-use volumes::{cover, face, height, reach};
+use volumes::reach;
 
 fn sample(numbers: &mut Numbers) -> anyhow::Result<Sample> {
     let x = Step(numbers.number()?);
@@ -16,12 +17,12 @@ fn sample(numbers: &mut Numbers) -> anyhow::Result<Sample> {
 // The face's normal, how it covers the sample, and what it raises it to.
 fn told(heap: Global, face: &Face, sample: Sample) -> anyhow::Result<String> {
     let [x, y, z] = face.normal;
-    let way = match cover::covers(face, sample) {
+    let way = match face.covers(sample) {
         Cover::Up => "up",
         Cover::Down => "down",
         Cover::Beside => "beside",
     };
-    match height::raised_to(face, sample) {
+    match face.raised_to(sample) {
         Some(top) => {
             let top = top.0;
             Ok(format!(in heap; "{x} {y} {z} {way} {top}")?)
@@ -36,7 +37,7 @@ pub(crate) fn floor(heap: Global, numbers: &mut Numbers) -> anyhow::Result<Strin
     let b = numbers.point()?;
     let c = numbers.point()?;
     let at = sample(numbers)?;
-    told(heap, &face::near_cap(a, b, c), at)
+    told(heap, &Face::near_cap(Facet { a, b, c }), at)
 }
 
 // wall, then the two ends of a side, a run and a sample
@@ -46,7 +47,7 @@ pub(crate) fn wall(heap: Global, numbers: &mut Numbers) -> anyhow::Result<String
     let run = numbers.run()?;
     let at = sample(numbers)?;
     match reach::extent(run) {
-        Ok(extent) => told(heap, &face::wall(u, v, extent), at),
+        Ok(extent) => told(heap, &Face::wall(u, v, extent), at),
         Err(_) => Err(anyhow!("a run outside its limits")),
     }
 }

@@ -1,6 +1,6 @@
 // Cases of `strike`.
 use crate::words::{Numbers, refused};
-use geometry::strike;
+use geometry::facet::Facet;
 use std::alloc::Global;
 
 // strike, then three numbers each of the triangle's corners, the receiver and the run
@@ -10,7 +10,7 @@ pub(crate) fn strike(heap: Global, numbers: &mut Numbers) -> anyhow::Result<Stri
     let c = numbers.point()?;
     let p = numbers.point()?;
     let run = numbers.run()?;
-    match strike::strike(run, a, b, c, p) {
+    match (Facet { a, b, c }).strike(run, p) {
         Ok(true) => Ok(String::from_str(heap, "yes")?),
         Ok(false) => Ok(String::from_str(heap, "no")?),
         Err(refusal) => refused(heap, refusal),

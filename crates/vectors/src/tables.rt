@@ -47,13 +47,13 @@ fn listed(heap: Global, list: &[u32]) -> anyhow::Result<String> {
 }
 
 fn misfit(heap: Global, misfit: Misfit) -> anyhow::Result<String> {
-    let number = misfit.refusal.number();
+    let refusal = misfit.refusal;
     let text = match misfit.site {
-        Site::Nowhere => format!(in heap; "refused {number}")?,
-        Site::Corner(at) => format!(in heap; "refused {number} corner {at}")?,
-        Site::Triangle(at) => format!(in heap; "refused {number} face {at}")?,
-        Site::Place(at) => format!(in heap; "refused {number} place {at}")?,
-        Site::Partners(at) => format!(in heap; "refused {number} partners {at}")?,
+        Site::Nowhere => format!(in heap; "{refusal}")?,
+        Site::Corner(at) => format!(in heap; "{refusal} corner {at}")?,
+        Site::Triangle(at) => format!(in heap; "{refusal} face {at}")?,
+        Site::Place(at) => format!(in heap; "{refusal} place {at}")?,
+        Site::Partners(at) => format!(in heap; "{refusal} partners {at}")?,
     };
     Ok(text)
 }

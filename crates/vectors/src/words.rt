@@ -74,6 +74,5 @@ impl<'a> Numbers<'a> {
 
 // How a refusal is written.
 pub(crate) fn refused(heap: Global, refusal: Refusal) -> anyhow::Result<String> {
-    let number = refusal.number();
-    Ok(format!(in heap; "refused {number}")?)
+    Ok(format!(in heap; "{refusal}")?)
 }

@@ -5,19 +5,20 @@ ghost use Rattle.volumes.specs.Machine.{face_of, sample_of};
 ghost use Rattle.volumes.specs.Wrapped.{wrapped_contribution};
 ghost use Rattle.volumes.specs.Near.{NearFace, NearSample};
 
-use crate::cover::{Sample, covers};
+use crate::cover::Sample;
 use crate::face::Face;
-use crate::height::is_below;
 use geometry::units::Step;
 
-// Depth-fail: a face below the receiver takes 1 where it covers the sample upwards and adds 1 where it covers it downwards.
-pub fn contribution(face: &Face, sample: Sample, z: Step) -> i64
-    ensures wrapped { result ≡ wrapped_contribution (face_of face.now) (sample_of sample) z.0 }
-    ensures exact { NearFace (face_of face.now) → NearSample (sample_of sample) → unsigned_abs z.0 ≤ 2 ^ 14 → result ≡ contribution_of (face_of face.now) (sample_of sample) z.0 }
-{
-    if is_below(face, sample, z) {
-        covers(face, sample).weight()
-    } else {
-        0
+impl Face {
+    // Depth-fail: a face below the receiver takes 1 where it covers the sample upwards and adds 1 where it covers it downwards.
+    pub fn contribution(&self, sample: Sample, z: Step) -> i64
+        ensures wrapped { result ≡ wrapped_contribution (face_of self.now) (sample_of sample) z.0 }
+        ensures exact { NearFace (face_of self.now) → NearSample (sample_of sample) → unsigned_abs z.0 ≤ 2 ^ 14 → result ≡ contribution_of (face_of self.now) (sample_of sample) z.0 }
+    {
+        if self.is_below(sample, z) {
+            self.covers(sample).weight()
+        } else {
+            0
+        }
     }
 }

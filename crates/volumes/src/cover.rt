@@ -92,18 +92,20 @@ impl Cover {
     }
 }
 
-// How the face covers the sample: upwards if all its side signs are positive, downwards if all are negative.
-pub fn covers(face: &Face, sample: Sample) -> Cover
-    ensures wrapped { result ≡ cover_by (wrapped_side_signs (face_of face.now) (sample_of sample)) }
-    ensures exact { NearFace (face_of face.now) → NearSample (sample_of sample) → result ≡ cover_by (side_signs (face_of face.now) (sample_of sample)) }
-{
-    let first = side_sign(face.first, face.second, sample);
-    let second = side_sign(face.second, face.third, sample);
-    let cover = Cover::of(first).along(second);
-    match face.fourth {
-        None => cover.along(side_sign(face.third, face.first, sample)),
-        Some(fourth) => cover
-            .along(side_sign(face.third, fourth, sample))
-            .along(side_sign(fourth, face.first, sample)),
+impl Face {
+    // How the face covers the sample: upwards if all its side signs are positive, downwards if all are negative.
+    pub fn covers(&self, sample: Sample) -> Cover
+        ensures wrapped { result ≡ cover_by (wrapped_side_signs (face_of self.now) (sample_of sample)) }
+        ensures exact { NearFace (face_of self.now) → NearSample (sample_of sample) → result ≡ cover_by (side_signs (face_of self.now) (sample_of sample)) }
+    {
+        let first = side_sign(self.first, self.second, sample);
+        let second = side_sign(self.second, self.third, sample);
+        let cover = Cover::of(first).along(second);
+        match self.fourth {
+            None => cover.along(side_sign(self.third, self.first, sample)),
+            Some(fourth) => cover
+                .along(side_sign(self.third, fourth, sample))
+                .along(side_sign(fourth, self.first, sample)),
+        }
     }
 }

@@ -10,7 +10,7 @@ ghost use Rattle.volumes.specs.Extent.{extent as extent_along};
 ghost use Rattle.volumes.specs.Machine.{face_of};
 ghost use Rattle.volumes.specs.Wrapped.{wrapped_face};
 
-use geometry::strike::normal;
+use geometry::facet::Facet;
 use geometry::units::Point;
 use geometry::vector::{Vector, cross, difference};
 
@@ -24,20 +24,6 @@ pub struct Face {
     pub normal: Vector,
 }
 
-// The triangle a b c itself.
-pub fn near_cap(a: Point, b: Point, c: Point) -> Face
-    ensures wrapped { face_of result ≡ wrapped_face (near_cap (point_of a) (point_of b) (point_of c)) }
-    ensures exact { InLimits (point_of a) → InLimits (point_of b) → InLimits (point_of c) → face_of result ≡ near_cap (point_of a) (point_of b) (point_of c) }
-{
-    Face {
-        first: a.vector(),
-        second: b.vector(),
-        third: c.vector(),
-        fourth: None,
-        normal: normal(a, b, c),
-    }
-}
-
 // The corner at the end of the sweep.
 fn swept(corner: Point, extent: Vector) -> Vector
     ensures { vector_of result ≡ wrapped3 (vectors.plus (point_of corner) (vector_of extent)) }
@@ -49,30 +35,49 @@ fn swept(corner: Point, extent: Vector) -> Vector
     ]
 }
 
-// The triangle a b c at the end of the sweep, turned over. To sweep it does not turn its normal.
-pub fn far_cap(a: Point, b: Point, c: Point, extent: Vector) -> Face
-    ensures wrapped { face_of result ≡ wrapped_face (far_cap (point_of a) (point_of b) (point_of c) (vector_of extent)) }
-    ensures exact { (d : V3) → LawfulRun d → vector_of extent ≡ extent_along d → InLimits (point_of a) → InLimits (point_of b) → InLimits (point_of c) → face_of result ≡ far_cap (point_of a) (point_of b) (point_of c) (vector_of extent) }
-{
-    Face {
-        first: swept(c, extent),
-        second: swept(b, extent),
-        third: swept(a, extent),
-        fourth: None,
-        normal: normal(c, b, a),
+impl Face {
+    // The facet itself.
+    pub fn near_cap(facet: Facet) -> Face
+        ensures wrapped { face_of result ≡ wrapped_face (near_cap (point_of facet.a) (point_of facet.b) (point_of facet.c)) }
+        ensures exact { InLimits (point_of facet.a) → InLimits (point_of facet.b) → InLimits (point_of facet.c) → face_of result ≡ near_cap (point_of facet.a) (point_of facet.b) (point_of facet.c) }
+    {
+        Face {
+            first: facet.a.into(),
+            second: facet.b.into(),
+            third: facet.c.into(),
+            fourth: None,
+            normal: facet.normal(),
+        }
     }
-}
 
-// What the side from u to v sweeps.
-pub fn wall(u: Point, v: Point, extent: Vector) -> Face
-    ensures wrapped { face_of result ≡ wrapped_face (wall_of (point_of u) (point_of v) (vector_of extent)) }
-    ensures exact { (d : V3) → LawfulRun d → vector_of extent ≡ extent_along d → InLimits (point_of u) → InLimits (point_of v) → face_of result ≡ wall_of (point_of u) (point_of v) (vector_of extent) }
-{
-    Face {
-        first: u.vector(),
-        second: swept(u, extent),
-        third: swept(v, extent),
-        fourth: Some(v.vector()),
-        normal: cross(extent, difference(v.vector(), u.vector())),
+    // The facet at the end of the sweep, turned over. To sweep it does not turn its normal.
+    pub fn far_cap(facet: Facet, extent: Vector) -> Face
+        ensures wrapped { face_of result ≡ wrapped_face (far_cap (point_of facet.a) (point_of facet.b) (point_of facet.c) (vector_of extent)) }
+        ensures exact { (d : V3) → LawfulRun d → vector_of extent ≡ extent_along d → InLimits (point_of facet.a) → InLimits (point_of facet.b) → InLimits (point_of facet.c) → face_of result ≡ far_cap (point_of facet.a) (point_of facet.b) (point_of facet.c) (vector_of extent) }
+    {
+        let Facet { a, b, c } = facet;
+        let turned = Facet { a: c, b, c: a };
+        Face {
+            first: swept(c, extent),
+            second: swept(b, extent),
+            third: swept(a, extent),
+            fourth: None,
+            normal: turned.normal(),
+        }
+    }
+
+    // What the side from u to v sweeps.
+    pub fn wall(u: Point, v: Point, extent: Vector) -> Face
+        ensures wrapped { face_of result ≡ wrapped_face (wall_of (point_of u) (point_of v) (vector_of extent)) }
+        ensures exact { (d : V3) → LawfulRun d → vector_of extent ≡ extent_along d → InLimits (point_of u) → InLimits (point_of v) → face_of result ≡ wall_of (point_of u) (point_of v) (vector_of extent) }
+    {
+        let end = Vector::from(v);
+        Face {
+            first: u.into(),
+            second: swept(u, extent),
+            third: swept(v, extent),
+            fourth: Some(end),
+            normal: cross(extent, difference(end, u.into())),
+        }
     }
 }

@@ -14,5 +14,5 @@ returns c =
     let a = c.new-a.ensures ∙ passed _ _ _ c.ranges.ax c.ranges.ay c.ranges.az in
     let b = c.new-b.ensures ∙ passed _ _ _ c.ranges.bx c.ranges.by c.ranges.bz in
     let t = c.new-c.ensures ∙ passed _ _ _ c.ranges.cx c.ranges.cy c.ranges.cz in
-    let p = c.new-p.ensures ∙ passed _ _ _ c.ranges.px c.ranges.py c.ranges.pz in
+    let p = c.new.ensures ∙ passed _ _ _ c.ranges.px c.ranges.py c.ranges.pz in
     c.told.ensures ∙ ap told_in_c (c.strike.ensures ∙ (λ i. struck_or_refused (d i) (a i) (b i) (t i) (p i)))

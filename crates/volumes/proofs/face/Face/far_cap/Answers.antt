@@ -4,13 +4,13 @@ use Rattle.geometry.specs.Machine.{vector_of, wrapped3}
 use Rattle.geometry.specs.Units.{point_of}
 use Rattle.geometry.specs.Strikes.{normal}
 use Rattle.volumes.proofs.Made.{far_made, far_exact}
-use Rattle.volumes.proofs.face.far_cap.Goals as goal
+use Rattle.volumes.proofs.face.Face.far_cap.Goals as goal
 
 pub returns : goal.returns
 returns c =
-    let a = point_of c.args.a in
-    let b = point_of c.args.b in
-    let d = point_of c.args.c in
+    let a = point_of c.args.facet.a in
+    let b = point_of c.args.facet.b in
+    let d = point_of c.args.facet.c in
     let e = vector_of c.args.extent in
     let p : vector_of c.swept.result ≡ wrapped3 (plus d e) = search rules in
     let q : vector_of c.swept-2.result ≡ wrapped3 (plus b e) = search rules in

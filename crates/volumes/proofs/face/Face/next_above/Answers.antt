@@ -6,11 +6,11 @@ use Rattle.volumes.specs.Faces.{receiver}
 use Rattle.volumes.specs.Machine.{face_of, sample_of}
 use Rattle.volumes.specs.Wrapped.{wrapped_ratio}
 use Rattle.volumes.proofs.Computed.{plane_at, raised_by_lem}
-use Rattle.volumes.proofs.height.next_above.Goals as goal
+use Rattle.volumes.proofs.face.Face.next_above.Goals as goal
 
 pub returns : goal.returns
 returns c =
-    let f = face_of c.args.face.now in
+    let f = face_of c.args.self.now in
     let p = sample_of c.args.sample in
     let e : vector_of c.receiver.result ≡ receiver p (pos 0) = search rules in
     let d : vector_of c.difference.result ≡ wrapped3 (minus f.first (receiver p (pos 0))) = c.difference.ensures ∙ ap (λ x. wrapped3 (minus f.first x)) e in

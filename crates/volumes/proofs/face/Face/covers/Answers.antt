@@ -4,11 +4,11 @@ use Rattle.volumes.specs.Machine.{face_of, sample_of, cover_by}
 use Rattle.volumes.specs.Wrapped.{wrapped_side_sign}
 use Rattle.volumes.proofs.Computed.{cover_of_three, cover_of_four}
 use Rattle.volumes.proofs.Exact.{signs_exact}
-use Rattle.volumes.proofs.cover.covers.Goals as goal
+use Rattle.volumes.proofs.face.Face.covers.Goals as goal
 
 pub returns-in-None : goal.returns-in-None
 returns-in-None c =
-    let f = c.args.face.now in
+    let f = c.args.self.now in
     let p = sample_of c.args.sample in
     let a : sign_is c.side_sign-first.result ≡ wrapped_side_sign (vector_of f.first) (vector_of f.second) p = search rules in
     let b : sign_is c.side_sign-second.result ≡ wrapped_side_sign (vector_of f.second) (vector_of f.third) p = search rules in
@@ -19,7 +19,7 @@ returns-in-None c =
 
 pub returns-in-Some : goal.returns-in-Some
 returns-in-Some c =
-    let f = c.args.face.now in
+    let f = c.args.self.now in
     let p = sample_of c.args.sample in
     let v = c.in-Some.fourth in
     let a : sign_is c.side_sign-first.result ≡ wrapped_side_sign (vector_of f.first) (vector_of f.second) p = search rules in

@@ -6,11 +6,11 @@ use Rattle.volumes.specs.Faces.{receiver}
 use Rattle.volumes.specs.Machine.{face_of, sample_of}
 use Rattle.volumes.proofs.Computed.{plane_at}
 use Rattle.volumes.proofs.Exact.{below_exact}
-use Rattle.volumes.proofs.height.is_below.Goals as goal
+use Rattle.volumes.proofs.face.Face.is_below.Goals as goal
 
 pub returns : goal.returns
 returns c =
-    let f = face_of c.args.face.now in
+    let f = face_of c.args.self.now in
     let p = sample_of c.args.sample in
     let z = c.args.z.0 in
     let e : vector_of c.receiver.result ≡ receiver p z = search rules in

@@ -4,11 +4,11 @@ use Rattle.volumes.specs.Machine.{face_of, sample_of, cover_by}
 use Rattle.volumes.specs.Wrapped.{wrapped_side_signs, wrapped_below}
 use Rattle.volumes.proofs.Computed.{counted_below, counted_above}
 use Rattle.volumes.proofs.Exact.{contribution_exact}
-use Rattle.volumes.proofs.count.contribution.Goals as goal
+use Rattle.volumes.proofs.face.Face.contribution.Goals as goal
 
 pub returns-then-is_below : goal.returns-then-is_below
 returns-then-is_below c =
-    let f = face_of c.args.face.now in
+    let f = face_of c.args.self.now in
     let p = sample_of c.args.sample in
     let z = c.args.z.0 in
     let b : c.is_below.result ≡ wrapped_below f p z = search rules in
@@ -18,7 +18,7 @@ returns-then-is_below c =
 
 pub returns-else-is_below : goal.returns-else-is_below
 returns-else-is_below c =
-    let f = face_of c.args.face.now in
+    let f = face_of c.args.self.now in
     let p = sample_of c.args.sample in
     let z = c.args.z.0 in
     let b : c.is_below.result ≡ wrapped_below f p z = search rules in
