@@ -8,7 +8,7 @@ use crate::light::Run;
 use crate::refusal::Refusal;
 use crate::units::Point;
 
-// The answer as a number.
+// The answer as a number, as the interface to C needs it.
 fn told(answer: Result<bool, Refusal>) -> u8
     ensures { result ≡ told_in_c answer }
 {
@@ -19,7 +19,8 @@ fn told(answer: Result<bool, Refusal>) -> u8
     }
 }
 
-// Whether the triangle a b c keeps light of the run d from the receiver p: 0 for no, 1 for yes, else the number of the refusal.
+// Whether the triangle a b c keeps light of the run d from the receiver p: 0 for no, 1 for yes, else the number of the refusal. C passes
+// the parts of the five vectors, and no type of the library.
 pub fn hovantsi_strike(
     dx: i64,
     dy: i64,

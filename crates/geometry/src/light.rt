@@ -12,7 +12,7 @@ pub struct Run {
     pub dz: i64,
 }
 
-// The way to the sun. Only `turn` makes a run of it.
+// The way to the sun. Only `turn` makes a run of it: a rule of the project keeps the two apart, though both hold the same numbers.
 #[derive(Clone, Copy, PartialEq, Eq, Debug)]
 pub struct Bearing {
     pub dx: i64,

@@ -25,7 +25,7 @@ impl Sign {
         }
     }
 
-    // The sign of the number's negative, also where that would not fit.
+    // The sign of the number's negative, also where that would not fit. It is no plainer as the sign turned round: that is one more function.
     pub fn of_negative(number: i64) -> Sign
         ensures { sign_is result ≡ sign_of (neg_ℤ number) }
     {

@@ -18,6 +18,7 @@ use crate::units::Point;
 use crate::vector::{Vector, cross, difference, dot};
 
 // The side of the point p at the plane through u with the normal n. A point in the plane counts as a hair lower, then right, then down.
+// A type for n and u would be no plainer: each caller has both as vectors, and would only wrap them for this call.
 pub fn plane_side(n: Vector, u: Vector, p: Vector) -> Sign
     ensures wrapped { sign_is result ≡ wrapped_side (vector_of n) (vector_of u) (vector_of p) }
     ensures exact { FitsSigned w64 (exact.dot (vector_of n) (exact.minus (vector_of p) (vector_of u))) → sign_is result ≡ test.plane_side (vector_of n) (vector_of u) (vector_of p) }

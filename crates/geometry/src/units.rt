@@ -12,7 +12,7 @@ pub struct Step(pub i64);
 #[derive(Clone, Copy, PartialEq, Eq, Debug)]
 pub struct Column(pub u16);
 
-// A pixel's row, from 0 at the top.
+// A pixel's row, from 0 at the top. A rule of the project keeps it apart from a column, though both hold the same number.
 #[derive(Clone, Copy, PartialEq, Eq, Debug)]
 pub struct Row(pub u16);
 

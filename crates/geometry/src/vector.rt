@@ -10,7 +10,7 @@ ghost use Rattle.geometry.specs.Light.{run_of};
 use crate::light::Run;
 use crate::units::Point;
 
-// A point or a direction, by its parts x, y and z.
+// A point or a direction, by its parts x, y and z. A rule of the project makes it an array, passed by value to plain functions.
 pub type Vector = [i64; 3];
 
 impl From<Point> for Vector {

@@ -58,7 +58,7 @@ pub enum Cover {
 }
 
 impl Cover {
-    // What one side says alone.
+    // What one side says alone. It is no conversion, which would keep what the side is.
     fn of(side: Sign) -> Cover
         ensures { result ≡ cover_by (sign_is side ∷ []) }
     {

@@ -14,7 +14,8 @@ use geometry::facet::Facet;
 use geometry::units::Point;
 use geometry::vector::{Vector, cross, difference};
 
-// A flat polygon: its corners in order, the fourth only where there are four, and its normal.
+// A flat polygon: its corners in order, the fourth only where there are four, and its normal. Functions take any face, near the plan or
+// not: so what is exact only near it is a premise of their clauses, where an invariant here would ask more of callers.
 #[derive(Clone, Copy)]
 pub struct Face {
     pub first: Vector,
