@@ -2,7 +2,7 @@
 use Rattle.std.proofs.Common.{◌≡◌, ℕ, suc, ◌+◌, ◌*◌, ◌%◌, ◌<◌, ◌≤◌, true, false, ◌&&◌, eqb, ◌⊎◌, List, length, get_or, set, replicate, is_some, Some, None, Option, sym, refl, ap, ◌∙◌, subst, ⊎_elim, mul-le-mul, add_comm, arith, get_or-set_other, get_or-set_same, MatchOption}
 use Rattle.std.proofs.lemmas.List.{get_or-replicate}
 use Rattle.std.proofs.lemmas.Bool.{cases_lt, cases_eq, cases_order, and_parts, and_cases, eqb-true, eqb-false, true≢false}
-use Rattle.solids.specs.Tables.{sides, side_start, side_end, Same, Reverse, Partners, PairedAt}
+use Rattle.solids.specs.Tables.{sides, side_start, side_end, Same, Reverse, PairedAt}
 use Rattle.solids.specs.Chains.{mixed, key_of, key_at, Leads, Linked}
 use Rattle.solids.specs.declared.sides.Side.{Side}
 use Rattle.solids.specs.declared.solid.Triangle.{Triangle}
@@ -102,17 +102,6 @@ pub record Walked (ts : List Triangle) (q ahead : ℕ) (found : Option ℕ) : Ty
   pub held : Found ts q ahead found
 
 module _ (ts : List Triangle) (heads links : List ℕ) (l : Linked ts (sides ts) heads links) (q : ℕ) where
-  -- no place of the key lies behind the head of its chain
-  pub walk_starts : Walked ts q (get_or heads (key_at ts q) 0) None
-  walk_starts =
-      let k = l.first (key_at ts q) (key_below ts q) in
-      record {
-        within = k.within;
-        here = k.here;
-        once = λ r a b s. absurd (k.last r a b (same_key ts r q s));
-        held = λ r a b s. k.last r a b (reverse_key ts r q s);
-      }
-
   -- a place that is seen next, and the link behind it
   module _ (p : ℕ) (found : Option ℕ) (w : Walked ts q (suc p) found) where
     pub seen_below : p < sides ts
@@ -188,10 +177,6 @@ module _ (ts : List Triangle) (heads links : List ℕ) (l : Linked ts (sides ts)
           };
         }
 
-    -- the place is another that has the side of q
-    pub twice_there : Same ts p q → (p ≡ q → ⊥) → PairedAt ts q → ⊥
-    twice_there s ne m = ne (m.1.once p seen_below s)
-
     -- the place is a second reverse
     pub twice_back : (x : ℕ) → found ≡ Some x → Reverse ts p q → PairedAt ts q → ⊥
     twice_back x e s m =
@@ -200,18 +185,6 @@ module _ (ts : List Triangle) (heads links : List ℕ) (l : Linked ts (sides ts)
         let j = m.1.reverse_once x h.below h.reverse in
         let k = h.seen in
         omega arith
-
--- what a walk to the end has found
-pub walk_ends :
-    (ts : List Triangle) (q : ℕ) (found : Option ℕ) → Walked ts q 0 found → MatchOption found (PairedAt ts q → ⊥) (λ p. Partners ts q p)
-walk_ends ts q None w = λ m. w.held m.0 (omega arith) m.1.in_range m.1.reverse
-walk_ends ts q (Some p) w =
-    record {
-      in_range = w.held.below;
-      reverse = w.held.reverse;
-      once = λ r. w.once r (omega arith);
-      reverse_once = λ r. w.held.only r (omega arith);
-    }
 
 -- ---- what the code's tests of two sides say
 pub alike : (s t : Side) → (eqb s.from t.from && eqb s.to t.to) ≡ true → (s.from ≡ t.from) × (s.to ≡ t.to)

@@ -87,11 +87,10 @@ impl Mesh<'_> {
     {
         self.test_tables(partners.len())?;
         let chains = Chains::link(self.triangles);
+        // by index, since a proof knows nothing of what is written through `iter_mut`
         for place in 0..partners.len() {
-            let Some(partner) = chains.partner_of(place) else {
-                return Err(Misfit::new(Refusal::Side, Site::Place(place)));
-            };
-            partners[place] = partner as u32;
+            let misfit = Misfit::new(Refusal::Side, Site::Place(place));
+            partners[place] = chains.partner_of(place).ok_or(misfit)? as u32;
         }
         Ok(())
     }

@@ -78,6 +78,7 @@ impl<'a> Chains<'a> {
     {
         let mut heads = [0; MOST];
         let mut links = [0; MOST_PLACES];
+        // by index, since a proof knows nothing of what is written through `iter_mut`
         for place in 0..3 * triangles.len() {
             let key = Side::at(triangles, place).key();
             links[place] = heads[key];
