@@ -1,8 +1,8 @@
 -- Walks along the chains of places.
-use Rattle.std.proofs.Common.{◌≡◌, ℕ, suc, ◌+◌, ◌*◌, ◌%◌, ◌<◌, ◌≤◌, true, false, ◌&&◌, eqb, ◌⊎◌, List, length, get_or, set, replicate, is_some, Some, None, Option, sym, refl, ap, ◌∙◌, subst, ⊎_elim, mul-le-mul, add_comm, arith, get_or-set_other, get_or-set_same, MatchOption}
+use Rattle.std.proofs.Common.{◌≡◌, ℕ, suc, ◌+◌, ◌%◌, ◌<◌, ◌≤◌, true, false, ◌&&◌, eqb, ◌⊎◌, List, length, get_or, set, replicate, is_some, Some, None, Option, sym, refl, ap, ◌∙◌, subst, ⊎_elim, add_comm, arith, get_or-set_other, get_or-set_same, MatchOption}
 use Rattle.std.proofs.lemmas.List.{get_or-replicate}
 use Rattle.std.proofs.lemmas.Bool.{cases_lt, cases_eq, cases_order, and_parts, and_cases, eqb-true, eqb-false, true≢false}
-use Rattle.solids.specs.Tables.{sides, side_start, side_end, Same, Reverse, PairedAt}
+use Rattle.solids.specs.Tables.{sides, side_start, side_end, Same, Reverse, Partners, PairedAt}
 use Rattle.solids.specs.Chains.{mixed, key_of, key_at, Leads, Linked}
 use Rattle.solids.specs.declared.sides.Side.{Side}
 use Rattle.solids.specs.declared.solid.Triangle.{Triangle}
@@ -24,13 +24,6 @@ key_below ts q = below (mixed (side_start ts q) + mixed (side_end ts q))
   where
     below : (n : ℕ) → n % 4096 < 4096
     below n = omega arith
-
--- a product of such factors is small
-pub mixed_low : (n : ℕ) → n % 4096 * (2 * (n % 4096) + 1) ≤ 33542145
-mixed_low n = low (n % 4096) (omega arith)
-  where
-    low : (r : ℕ) → r ≤ 4095 → r * (2 * r + 1) ≤ 33542145
-    low r h = let k : 2 * r + 1 ≤ 8191 = omega arith in mul-le-mul h k
 
 -- ---- the chains grow by one place
 -- no place is in a chain yet
@@ -185,6 +178,18 @@ module _ (ts : List Triangle) (heads links : List ℕ) (l : Linked ts (sides ts)
         let j = m.1.reverse_once x h.below h.reverse in
         let k = h.seen in
         omega arith
+
+-- what a walk to the end has found
+pub walk_ends :
+    (ts : List Triangle) (q : ℕ) (found : Option ℕ) → Walked ts q 0 found → MatchOption found (PairedAt ts q → ⊥) (λ p. Partners ts q p)
+walk_ends ts q None w = λ m. w.held m.0 (omega arith) m.1.in_range m.1.reverse
+walk_ends ts q (Some p) w =
+    record {
+      in_range = w.held.below;
+      reverse = w.held.reverse;
+      once = λ r. w.once r (omega arith);
+      reverse_once = λ r. w.held.only r (omega arith);
+    }
 
 -- ---- what the code's tests of two sides say
 pub alike : (s t : Side) → (eqb s.from t.from && eqb s.to t.to) ≡ true → (s.from ≡ t.from) × (s.to ≡ t.to)

@@ -1,6 +1,6 @@
 use Rattle.std.proofs.Common.{◌≡◌, ℕ, suc, ◌-◌, sym, ◌∙◌, arith}
 use Rattle.solids.specs.Tables.{Same, Reverse}
-use Rattle.solids.proofs.Chains.{walk_passes, walk_finds, twice_back, alike, unlike, none_left, some_there}
+use Rattle.solids.proofs.Chains.{walk_ends, walk_passes, walk_finds, twice_back, alike, unlike, none_left, some_there}
 use Rattle.solids.proofs.sides.Chains.partner_of.Goals as goal
 use Rattle.solids.proofs.sides.Chains.partner_of.Goals.{else-eq-via-then-eq+else-here-place, else-eq-via-else-eq, then-eq-2+else-is_some, else-eq-2}
 
@@ -15,6 +15,11 @@ returns-then-is_some c =
     let back : Reverse ts p q = (cc, cc) in
     let x = some_there c.loop-ahead.found (sym c.if-is_some.ensures) in
     twice_back ts _ _ c.args.self.now.linked q p c.loop-ahead.found walked x.0 x.1 back
+
+pub returns : goal.returns
+returns c =
+    let ends : c.loop-ahead.ahead ≡ 0 = omega arith in
+    walk_ends c.args.self.now.triangles.now c.args.place c.loop-ahead.found (rw ends at c.loop-ahead.invariant)
 
 pub loop-ahead-preserved : goal.loop-ahead-preserved
 loop-ahead-preserved c =
