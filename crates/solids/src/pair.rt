@@ -39,9 +39,7 @@ impl<A: Solid, B: Solid> Pair<A, B> {
     {
         Pair { first, second }
     }
-}
 
-impl<A: Solid, B: Solid> Pair<A, B> {
     // The two solids, where they fit together.
     fn parts(&self) -> Option<(&A, &B)>
         ensures { MatchOption result (fit (A.Solid.model self.now.first) (B.Solid.model self.now.second) ≡ false) (λ p. (fit (A.Solid.model self.now.first) (B.Solid.model self.now.second) ≡ true) × (p.0.now ≡ self.now.first) × (p.1.now ≡ self.now.second)) }
