@@ -1,9 +1,10 @@
 -- Walks along the chains of places.
-use Rattle.std.proofs.Common.{◌≡◌, ℕ, suc, ◌+◌, ◌*◌, ◌%◌, ◌<◌, ◌≤◌, true, false, ◌&&◌, eqb, ◌⊎◌, List, length, get_or, set, replicate, is_some, Some, None, Option, sym, refl, ap, ◌∙◌, subst, ⊎_elim, mul-le-mul, add_comm, arith, get_or-set_other, get_or-set_same, MatchOption}
-use Rattle.std.proofs.lemmas.List.{get_or-replicate, length-replicate, length-set}
+use Rattle.std.proofs.Common.{◌≡◌, ℕ, suc, ◌+◌, ◌%◌, ◌<◌, ◌≤◌, true, false, ◌&&◌, eqb, ◌⊎◌, List, length, get_or, set, replicate, is_some, Some, None, Option, sym, refl, ap, ◌∙◌, subst, ⊎_elim, add_comm, arith, get_or-set_other, get_or-set_same, MatchOption}
+use Rattle.std.proofs.lemmas.List.{get_or-replicate}
 use Rattle.std.proofs.lemmas.Bool.{cases_lt, cases_eq, cases_order, and_parts, and_cases, eqb-true, eqb-false, true≢false}
 use Rattle.solids.specs.Tables.{sides, side_start, side_end, Same, Reverse, Partners, PairedAt}
 use Rattle.solids.specs.Chains.{mixed, key_of, key_at, Leads, Linked}
+use Rattle.solids.specs.declared.sides.Side.{Side}
 use Rattle.solids.specs.declared.solid.Triangle.{Triangle}
 
 -- ---- keys
@@ -23,13 +24,6 @@ key_below ts q = below (mixed (side_start ts q) + mixed (side_end ts q))
   where
     below : (n : ℕ) → n % 4096 < 4096
     below n = omega arith
-
--- a product of such factors is small
-pub mixed_low : (n : ℕ) → n % 4096 * (2 * (n % 4096) + 1) ≤ 33542145
-mixed_low n = low (n % 4096) (omega arith)
-  where
-    low : (r : ℕ) → r ≤ 4095 → r * (2 * r + 1) ≤ 33542145
-    low r h = let k : 2 * r + 1 ≤ 8191 = omega arith in mul-le-mul h k
 
 -- ---- the chains grow by one place
 -- no place is in a chain yet
@@ -67,40 +61,21 @@ module _ (ts : List Triangle) (n : ℕ) (heads links : List ℕ) where
       length heads ≡ 4096 → n < length links → Linked ts n heads links
       → Linked ts (n + 1) (set heads (key_at ts n) (n + 1)) (set links n (get_or heads (key_at ts n) 0))
   linked_more full room l =
-      let low = key_below ts n in
+      let k = key_at ts n in
+      let low : k < 4096 = key_below ts n in
+      let head = get_or heads k 0 in
       record {
-        first = λ k h.
+        first = λ j h.
             ⊎_elim
-            (λ (e : k ≡ key_at ts n).
-            let v : get_or (set heads (key_at ts n) (n + 1)) (key_at ts n) 0 ≡ n + 1 = get_or-set_same heads (key_at ts n) (n + 1) 0 (omega arith) in
-            subst (λ x. Leads ts x (n + 1) (get_or (set heads (key_at ts n) (n + 1)) x 0)) (sym e) (subst (Leads ts (key_at ts n) (n + 1)) (sym v) new_head))
-            (λ (ne : k ≡ key_at ts n → ⊥).
-            subst (Leads ts k (n + 1)) (sym (get_or-set_other heads (key_at ts n) k (n + 1) 0 ne)) (other_head k (get_or heads k 0) (l.first k h) (λ e. ne (sym e))))
-            (cases_eq k (key_at ts n));
+            (λ (e : j ≡ k). rw (e, get_or-set_same heads k (n + 1) 0 (omega arith)) new_head)
+            (λ (ne : j ≡ k → ⊥). rw (get_or-set_other heads k j (n + 1) 0 ne) (other_head j (get_or heads j 0) (l.first j h) (λ e. ne (sym e))))
+            (cases_eq j k);
         next = λ p h.
             ⊎_elim
-            (λ (e : p ≡ n).
-            let v : get_or (set links n (get_or heads (key_at ts n) 0)) n 0 ≡ get_or heads (key_at ts n) 0 = get_or-set_same links n (get_or heads (key_at ts n) 0) 0 room in
-            subst (λ x. Leads ts (key_at ts x) x (get_or (set links n (get_or heads (key_at ts n) 0)) x 0)) (sym e)
-            (subst (Leads ts (key_at ts n) n) (sym v) (l.first (key_at ts n) low)))
-            (λ (ne : p ≡ n → ⊥).
-            subst (Leads ts (key_at ts p) p) (sym (get_or-set_other links n p (get_or heads (key_at ts n) 0) 0 ne)) (l.next p (omega arith)))
+            (λ (e : p ≡ n). rw (e, get_or-set_same links n head 0 room) (l.first k low))
+            (λ (ne : p ≡ n → ⊥). rw (get_or-set_other links n p head 0 ne) (l.next p (omega arith)))
             (cases_eq p n);
       }
-
--- the start and the step of the loop that links all places
-pub link_starts : (ts : List Triangle) (heads links : List ℕ) → heads ≡ replicate 4096 0 → (length heads ≡ 4096) × Linked ts 0 heads links
-link_starts ts heads links e =
-    (ap length e ∙ length-replicate {A = ℕ} 4096 0, subst (λ h. Linked ts 0 h links) (sym e) (linked_none ts links))
-
-pub link_steps :
-    (ts : List Triangle) (n : ℕ) (heads links : List ℕ) (key : ℕ)
-    → key ≡ key_at ts n
-    → n < length links
-    → (length heads ≡ 4096) × Linked ts n heads links
-    → (length (set heads key (n + 1)) ≡ 4096) × Linked ts (n + 1) (set heads key (n + 1)) (set links n (get_or heads key 0))
-link_steps ts n heads links key e room l =
-    (length-set heads key (n + 1) ∙ l.0, subst (λ k. Linked ts (n + 1) (set heads k (n + 1)) (set links n (get_or heads k 0))) (sym e) (linked_more ts n heads links l.0 room l.1))
 
 -- ---- a walk: all places of the key of q from `ahead` on were seen
 -- the one reverse seen so far
@@ -120,17 +95,6 @@ pub record Walked (ts : List Triangle) (q ahead : ℕ) (found : Option ℕ) : Ty
   pub held : Found ts q ahead found
 
 module _ (ts : List Triangle) (heads links : List ℕ) (l : Linked ts (sides ts) heads links) (q : ℕ) where
-  -- no place of the key lies behind the head of its chain
-  pub walk_starts : Walked ts q (get_or heads (key_at ts q) 0) None
-  walk_starts =
-      let k = l.first (key_at ts q) (key_below ts q) in
-      record {
-        within = k.within;
-        here = k.here;
-        once = λ r a b s. absurd (k.last r a b (same_key ts r q s));
-        held = λ r a b s. k.last r a b (reverse_key ts r q s);
-      }
-
   -- a place that is seen next, and the link behind it
   module _ (p : ℕ) (found : Option ℕ) (w : Walked ts q (suc p) found) where
     pub seen_below : p < sides ts
@@ -206,10 +170,6 @@ module _ (ts : List Triangle) (heads links : List ℕ) (l : Linked ts (sides ts)
           };
         }
 
-    -- the place is another that has the side of q
-    pub twice_there : Same ts p q → (p ≡ q → ⊥) → PairedAt ts q → ⊥
-    twice_there s ne m = ne (m.1.once p seen_below s)
-
     -- the place is a second reverse
     pub twice_back : (x : ℕ) → found ≡ Some x → Reverse ts p q → PairedAt ts q → ⊥
     twice_back x e s m =
@@ -218,25 +178,6 @@ module _ (ts : List Triangle) (heads links : List ℕ) (l : Linked ts (sides ts)
         let j = m.1.reverse_once x h.below h.reverse in
         let k = h.seen in
         omega arith
-
-  -- the same of the code's variables: `ahead` is one more than the place that is seen
-  module _ (p ahead : ℕ) (e : ahead ≡ suc p) (found : Option ℕ) (w : Walked ts q ahead found) where
-    pub passes_on :
-        (found' : Option ℕ) → (Same ts p q → p ≡ q) → (Reverse ts p q → ⊥) → found' ≡ found → Walked ts q (get_or links p 0) found'
-    passes_on found' own not_back f =
-        subst (Walked ts q (get_or links p 0)) (sym f) (walk_passes p found (subst (λ n. Walked ts q n found) e w) own not_back)
-
-    pub finds_one :
-        (found' : Option ℕ) → (Same ts p q → p ≡ q) → Reverse ts p q → found ≡ None → found' ≡ Some p
-        → Walked ts q (get_or links p 0) found'
-    finds_one found' own back none f =
-        subst (Walked ts q (get_or links p 0)) (sym f) (walk_finds p found (subst (λ n. Walked ts q n found) e w) own back none)
-
-    pub finds_same : Same ts p q → (p ≡ q → ⊥) → PairedAt ts q → ⊥
-    finds_same = twice_there p found (subst (λ n. Walked ts q n found) e w)
-
-    pub finds_two : (x : ℕ) → found ≡ Some x → Reverse ts p q → PairedAt ts q → ⊥
-    finds_two = twice_back p found (subst (λ n. Walked ts q n found) e w)
 
 -- what a walk to the end has found
 pub walk_ends :
@@ -251,12 +192,15 @@ walk_ends ts q (Some p) w =
     }
 
 -- ---- what the code's tests of two sides say
-pub both_equal : (a b c d : ℕ) → (eqb a b && eqb c d) ≡ true → (a ≡ b) × (c ≡ d)
-both_equal a b c d e = let p = and_parts (eqb a b) (eqb c d) e in (eqb-true a b p.0, eqb-true c d p.1)
+pub alike : (s t : Side) → (eqb s.from t.from && eqb s.to t.to) ≡ true → (s.from ≡ t.from) × (s.to ≡ t.to)
+alike s t e = let p = and_parts (eqb s.from t.from) (eqb s.to t.to) e in (eqb-true s.from t.from p.0, eqb-true s.to t.to p.1)
 
-pub not_both : (a b c d : ℕ) → (eqb a b && eqb c d) ≡ false → (a ≡ b) × (c ≡ d) → ⊥
-not_both a b c d e p =
-    ⊎_elim (λ (x : eqb a b ≡ false). eqb-false a b x p.0) (λ (x : eqb c d ≡ false). eqb-false c d x p.1) (and_cases (eqb a b) (eqb c d) e)
+pub unlike : (s t : Side) → (eqb s.from t.from && eqb s.to t.to) ≡ false → (s.from ≡ t.from) × (s.to ≡ t.to) → ⊥
+unlike s t e p =
+    ⊎_elim
+    (λ (x : eqb s.from t.from ≡ false). eqb-false s.from t.from x p.0)
+    (λ (x : eqb s.to t.to ≡ false). eqb-false s.to t.to x p.1)
+    (and_cases (eqb s.from t.from) (eqb s.to t.to) e)
 
 -- what the code's test of an option says
 pub some_there : (o : Option ℕ) → is_some o ≡ true → (x : ℕ) × (o ≡ Some x)

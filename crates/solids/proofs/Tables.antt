@@ -1,12 +1,10 @@
 -- Partner lists as loops make and read them.
-use Rattle.std.proofs.Common.{◌≡◌, ℕ, ◌+◌, ◌<◌, ◌≤◌, List, length, get_or, set, sym, subst, arith, get_or-set_other, get_or-set_same, below_more}
-use Rattle.solids.specs.Solids.{Lawful}
-use Rattle.solids.specs.Tables.{tabled, sides, misfit, Partners, PartneredAt, Paired, Partnered, Unloaded, mispartnered}
-use Rattle.solids.specs.TableLaw.{AllInside, AllNumbered, AllWithin, AllReverse, AllBack, tabled_lawful}
+use Rattle.std.proofs.Common.{◌≡◌, ℕ, ◌+◌, ◌<◌, List, length, get_or, set, sym, subst, arith, get_or-set_other, get_or-set_same, below_more}
+use Rattle.solids.specs.Tables.{sides, misfit, First, Partners, PartneredAt, Paired, Partnered, Unloaded, mispartnered}
+use Rattle.solids.specs.TableLaw.{AllWithin, AllReverse, AllBack}
 use Rattle.solids.specs.declared.misfit.Site.TheVariants.{Place as AtPlace}
 use Rattle.geometry.specs.declared.refusal.Refusal.TheVariants.{Side}
 use Rattle.geometry.specs.declared.units.Point.{Point}
-use Rattle.std.proofs.lemmas.List.{ext_get_or}
 use Rattle.solids.specs.declared.solid.Triangle.{Triangle}
 
 -- one more partner is written
@@ -24,26 +22,18 @@ partnered_more ts ps n p l before here =
 -- ---- a partner list beside the right one
 module _ (cs : List Point) (ts : List Triangle) (ps right : List ℕ) (p : Partnered cs ts right) (same : length ps ≡ length right) where
   -- it differs first at n
-  pub mispartnered_at :
-      (n : ℕ)
-      → n < length ps
-      → ((q : ℕ) → q < n → get_or ps q 0 ≡ get_or right q 0)
-      → (get_or ps n 0 ≡ get_or right n 0 → ⊥)
-      → Unloaded cs ts ps (misfit Side (AtPlace n))
-  mispartnered_at n l before differs =
+  pub mispartnered_at : (n : ℕ) → First (λ q. get_or ps q 0 ≡ get_or right q 0) (length ps) n → Unloaded cs ts ps (misfit Side (AtPlace n))
+  mispartnered_at n differs =
       let long = p.numbered.inside.filled.counted.long in
+      let low = differs.below in
       let here : n < sides ts = omega arith in
       mispartnered
       (subst (Paired cs ts) (sym same) (record { numbered = p.numbered; all = λ q h. (get_or right q 0, p.all q h) }))
       (record {
         below = here;
-        fails = λ f. differs ((p.all n here).reverse_once (get_or ps n 0) f.in_range f.reverse);
-        before = λ q h. subst (Partners ts q) (sym (before q h)) (p.all q (omega arith));
+        fails = λ f. differs.fails ((p.all n here).reverse_once (get_or ps n 0) f.in_range f.reverse);
+        before = λ q h. subst (Partners ts q) (sym (differs.before q h)) (p.all q (omega arith));
       })
-
-  -- it differs nowhere
-  pub partnered_as : ((q : ℕ) → q < length ps → get_or ps q 0 ≡ get_or right q 0) → Partnered cs ts ps
-  partnered_as all = subst (Partnered cs ts) (sym (ext_get_or 0 ps right same all)) p
 
 -- ---- what a table solid keeps
 module _ (cs : List Point) (ts : List Triangle) (ps : List ℕ) (p : Partnered cs ts ps) where
@@ -57,19 +47,3 @@ module _ (cs : List Point) (ts : List Triangle) (ps : List ℕ) (p : Partnered c
   partners_back q h =
       let e = (p.all q h).reverse in
       sym ((p.all (get_or ps q 0) (p.all q h).in_range).reverse_once q h (sym e.1, sym e.0))
-
-  pub kept :
-      (length cs ≤ 4096)
-      × ((length ts ≤ 4096)
-      × ((length ps ≡ sides ts)
-      × (AllInside cs × (AllNumbered (length cs) ts × (AllWithin ts ps × (AllReverse ts ps × (AllBack ts ps × Unit {0})))))))
-  kept =
-      let n = p.numbered in
-      let c = n.inside.filled.counted in
-      (c.corners_few, (c.triangles_few, (c.long, (n.inside.all, (n.all, (partners_within, (partners_reverse, (partners_back, tt))))))))
-
-  pub partnered_lawful : Lawful (tabled cs ts ps)
-  partnered_lawful =
-      let n = p.numbered in
-      let c = n.inside.filled.counted in
-      tabled_lawful cs ts ps c.corners_few c.triangles_few n.inside.all n.all partners_within partners_reverse partners_back

@@ -11,17 +11,10 @@ use Rattle.solids.specs.declared.solid.Triangle.{Triangle}
 use Rattle.solids.specs.declared.misfit.Misfit.{Misfit}
 use Rattle.solids.specs.declared.misfit.Site.TheVariants.{Nowhere, Corner as AtCorner, Triangle as AtTriangle, Place as AtPlace, Partners as AtPartners}
 
--- a misfit by another name
-pub says : {cs : List Point} {ts : List Triangle} {m : ℕ} {e f : Misfit} → e ≡ f → Unmatched cs ts m f → Unmatched cs ts m e
-says {cs} {ts} {m} e h = subst (Unmatched cs ts m) (sym e) h
-
-pub unloaded_as : {cs : List Point} {ts : List Triangle} {ps : List ℕ} {e f : Misfit} → e ≡ f → Unloaded cs ts ps f → Unloaded cs ts ps e
-unloaded_as {cs} {ts} {ps} e h = subst (Unloaded cs ts ps) (sym e) h
-
 -- what matches no list of another length n matches no list of this one's
 pub unmatched_at :
-    {cs : List Point} {ts : List Triangle} {ps : List ℕ} {e : Misfit} {n : ℕ} → n ≡ length ps → Unmatched cs ts n e → Unloaded cs ts ps e
-unmatched_at {cs} {ts} {ps} {e} h u = unmatched (subst (λ n. Unmatched cs ts n e) h u)
+    {cs : List Point} {ts : List Triangle} {ps : List ℕ} {e : Misfit} {n : ℕ} → Unmatched cs ts n e → n ≡ length ps → Unloaded cs ts ps e
+unmatched_at u h = unmatched (rw (sym h) u)
 
 -- tables that have a triangle, as a test tells it
 pub filled_unless :

@@ -1,10 +1,10 @@
 // Tables of corners, triangles and partners: their tests, and the partner list that corners and triangles have.
-ghost use Rattle.std.specs.Prelude.{◌≡◌, length, MatchResult};
+ghost use Rattle.std.specs.Prelude.{◌≡◌, length, slice_index, MatchResult};
 ghost use Rattle.solids.specs.Solids.{corners_of};
 ghost use Rattle.solids.specs.Tables.{InsideAt, are_numbers, NumberedAt, Searched, Counted, Numbered, Partnered, Unmatched, Unloaded, Matched};
 
 use crate::misfit::{Misfit, Site};
-use crate::sides::{MOST, MOST_PLACES, link, partner_of};
+use crate::sides::{Chains, MOST, MOST_PLACES};
 use crate::solid::Triangle;
 use geometry::refusal::Refusal;
 use geometry::units::Point;
@@ -23,78 +23,99 @@ impl Triangle {
     }
 }
 
-// The first corner outside the limits of coordinates.
-fn first_outside(corners: &[Point]) -> Option<usize>
-    ensures { Searched (InsideAt corners.now) (length corners.now) result }
-{
-    for number in 0..corners.len() {
-        if !corners[number].is_corner() {
-            return Some(number);
+// Corners and triangles that are to make a solid.
+#[derive(Drop)]
+pub(crate) struct Mesh<'a> {
+    pub(crate) corners: &'a [Point],
+    pub(crate) triangles: &'a [Triangle],
+}
+
+impl Mesh<'_> {
+    // The first corner outside the limits of coordinates.
+    fn first_outside(&self) -> Option<usize>
+        ensures { Searched (InsideAt self.now.corners.now) (length self.now.corners.now) result }
+    {
+        self.corners.iter().position(|corner| !corner.is_corner())
+    }
+
+    // The first triangle with a corner number that is out of range, or twice there.
+    fn first_misnumbered(&self) -> Option<usize>
+        ensures { Searched (NumberedAt (length self.now.corners.now) self.now.triangles.now) (length self.now.triangles.now) result }
+    {
+        let corners = self.corners.len();
+        self.triangles
+            .iter()
+            .position(|triangle| !triangle.is_numbered(corners))
+    }
+
+    // Whether the tables, with a partner list of a length, are within the limits of their lengths.
+    fn test_counts(&self, partners: usize) -> Result<(), Misfit>
+        ensures { MatchResult result (λ _. Counted self.now.corners.now self.now.triangles.now partners) (λ e. Unmatched self.now.corners.now self.now.triangles.now partners e) }
+    {
+        if self.corners.len() > MOST {
+            return Err(Misfit::new(Refusal::Count, Site::Corner(MOST)));
         }
-    }
-    None
-}
-
-// The first triangle with a corner number that is out of range, or twice there.
-fn first_misnumbered(corners: usize, triangles: &[Triangle]) -> Option<usize>
-    ensures { Searched (NumberedAt corners triangles.now) (length triangles.now) result }
-{
-    for number in 0..triangles.len() {
-        if !triangles[number].is_numbered(corners) {
-            return Some(number);
+        if self.triangles.len() > MOST {
+            return Err(Misfit::new(Refusal::Count, Site::Triangle(MOST)));
         }
+        if partners != 3 * self.triangles.len() {
+            return Err(Misfit::new(Refusal::Count, Site::Partners(partners)));
+        }
+        Ok(())
     }
-    None
-}
 
-// Whether tables are within the limits of their lengths.
-fn test_counts(corners: &[Point], triangles: &[Triangle], partners: usize) -> Result<(), Misfit>
-    ensures { MatchResult result (λ _. Counted corners.now triangles.now partners) (λ e. Unmatched corners.now triangles.now partners e) }
-{
-    if corners.len() > MOST {
-        return Err(Misfit::new(Refusal::Count, Site::Corner(MOST)));
+    // Whether the tables pass each test but that of the pairing rule.
+    fn test_tables(&self, partners: usize) -> Result<(), Misfit>
+        ensures { MatchResult result (λ _. Numbered self.now.corners.now self.now.triangles.now partners) (λ e. Unmatched self.now.corners.now self.now.triangles.now partners e) }
+    {
+        self.test_counts(partners)?;
+        if self.triangles.is_empty() {
+            return Err(Misfit::new(Refusal::Empty, Site::Nowhere));
+        }
+        if let Some(number) = self.first_outside() {
+            return Err(Misfit::new(Refusal::Coordinate, Site::Corner(number)));
+        }
+        if let Some(number) = self.first_misnumbered() {
+            return Err(Misfit::new(Refusal::Corner, Site::Triangle(number)));
+        }
+        Ok(())
     }
-    if triangles.len() > MOST {
-        return Err(Misfit::new(Refusal::Count, Site::Triangle(MOST)));
-    }
-    if partners != 3 * triangles.len() {
-        return Err(Misfit::new(Refusal::Count, Site::Partners(partners)));
-    }
-    Ok(())
-}
 
-// Whether corners and triangles pass each test but that of the pairing rule.
-fn test_tables(corners: &[Point], triangles: &[Triangle], partners: usize) -> Result<(), Misfit>
-    ensures { MatchResult result (λ _. Numbered corners.now triangles.now partners) (λ e. Unmatched corners.now triangles.now partners e) }
-{
-    test_counts(corners, triangles, partners)?;
-    if triangles.is_empty() {
-        return Err(Misfit::new(Refusal::Empty, Site::Nowhere));
+    // Writes the partner of each side, as far as the pairing rule holds.
+    fn pair_sides(&self, partners: &mut [u32]) -> Result<(), Misfit>
+        ensures { MatchResult result (λ _. Partnered self.now.corners.now self.now.triangles.now partners.new) (λ e. Unmatched self.now.corners.now self.now.triangles.now (length partners.old) e) }
+    {
+        self.test_tables(partners.len())?;
+        let chains = Chains::link(self.triangles);
+        // by index, since a proof knows nothing of what is written through `iter_mut`
+        for place in 0..partners.len() {
+            let misfit = Misfit::new(Refusal::Side, Site::Place(place));
+            partners[place] = chains.partner_of(place).ok_or(misfit)? as u32;
+        }
+        Ok(())
     }
-    if let Some(number) = first_outside(corners) {
-        return Err(Misfit::new(Refusal::Coordinate, Site::Corner(number)));
-    }
-    if let Some(number) = first_misnumbered(corners.len(), triangles) {
-        return Err(Misfit::new(Refusal::Corner, Site::Triangle(number)));
-    }
-    Ok(())
-}
 
-// Writes the partner of each side, as far as the pairing rule holds.
-fn pair_sides(corners: &[Point], triangles: &[Triangle], partners: &mut [u32]) -> Result<(), Misfit>
-    ensures { MatchResult result (λ _. Partnered corners.now triangles.now partners.new) (λ e. Unmatched corners.now triangles.now (length partners.old) e) }
-{
-    test_tables(corners, triangles, partners.len())?;
-    let mut heads = [0; MOST];
-    let mut links = [0; MOST_PLACES];
-    link(triangles, &mut heads, &mut links);
-    for place in 0..partners.len() {
-        let Some(partner) = partner_of(triangles, &heads, &links, place) else {
+    // Whether the tables make a solid with a partner list.
+    pub(crate) fn test_partners(&self, partners: &[u32]) -> Result<(), Misfit>
+        ensures { MatchResult result (λ _. Partnered self.now.corners.now self.now.triangles.now partners.now) (λ e. Unloaded self.now.corners.now self.now.triangles.now partners.now e) }
+    {
+        self.test_counts(partners.len())?;
+        let mut right = [0; MOST_PLACES];
+        let right = &mut right[..partners.len()];
+        match_sides(self.corners, self.triangles, right)?;
+        if let Some(place) = first_different(partners, right) {
             return Err(Misfit::new(Refusal::Side, Site::Place(place)));
-        };
-        partners[place] = partner as u32;
+        }
+        Ok(())
     }
-    Ok(())
+}
+
+// The first place at which two lists of one length differ.
+fn first_different(left: &[u32], right: &[u32]) -> Option<usize>
+    requires { length left.now ≡ length right.now }
+    ensures { Searched (λ q. slice_index left.now q ≡ slice_index right.now q) (length left.now) result }
+{
+    left.iter().zip(right.iter()).position(|(l, r)| l != r)
 }
 
 // Fills the partner list of corners and triangles: at each place stands the one place whose side is the reverse. Refusals, in the
@@ -108,41 +129,9 @@ pub fn match_sides(
 ) -> Result<(), Misfit>
     ensures { Matched corners.now triangles.now partners.old partners.new result }
 {
-    let outcome = pair_sides(corners, triangles, partners);
+    let outcome = Mesh { corners, triangles }.pair_sides(partners);
     if outcome.is_err() {
         partners.fill(0);
     }
     outcome
-}
-
-// Whether tables have the partner list that `match_sides` writes to `right`, a list of the same length.
-fn compare_partners(
-    corners: &[Point],
-    triangles: &[Triangle],
-    partners: &[u32],
-    right: &mut [u32],
-) -> Result<(), Misfit>
-    requires { length right.old ≡ length partners.now }
-    ensures { MatchResult result (λ _. Partnered corners.now triangles.now partners.now) (λ e. Unloaded corners.now triangles.now partners.now e) }
-{
-    match_sides(corners, triangles, right)?;
-    for place in 0..partners.len() {
-        if partners[place] != right[place] {
-            return Err(Misfit::new(Refusal::Side, Site::Place(place)));
-        }
-    }
-    Ok(())
-}
-
-// Whether tables make a solid.
-pub(crate) fn test_partners(
-    corners: &[Point],
-    triangles: &[Triangle],
-    partners: &[u32],
-) -> Result<(), Misfit>
-    ensures { MatchResult result (λ _. Partnered corners.now triangles.now partners.now) (λ e. Unloaded corners.now triangles.now partners.now e) }
-{
-    test_counts(corners, triangles, partners.len())?;
-    let mut right = [0; MOST_PLACES];
-    compare_partners(corners, triangles, partners, &mut right[0..partners.len()])
 }

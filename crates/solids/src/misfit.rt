@@ -26,6 +26,7 @@ pub struct Misfit {
 }
 
 impl Misfit {
+    // A misfit in one line, where a literal takes four at each refusal.
     pub(crate) fn new(refusal: Refusal, site: Site) -> Misfit
         ensures { result ≡ record { refusal = refusal; site = site } }
     {

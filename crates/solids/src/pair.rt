@@ -1,5 +1,5 @@
 // Two solids as one.
-ghost use Rattle.std.specs.Prelude.{◌≡◌, true, false, MatchResult};
+ghost use Rattle.std.specs.Prelude.{◌≡◌, true, false, MatchOption, MatchResult};
 ghost use Rattle.solids.specs.Pairs.{fit, paired, paired_lawful};
 
 use crate::solid::{Solid, Triangle};
@@ -39,6 +39,13 @@ impl<A: Solid, B: Solid> Pair<A, B> {
     {
         Pair { first, second }
     }
+
+    // The two solids, where they fit together.
+    fn parts(&self) -> Option<(&A, &B)>
+        ensures { MatchOption result (fit (A.Solid.model self.now.first) (B.Solid.model self.now.second) ≡ false) (λ p. (fit (A.Solid.model self.now.first) (B.Solid.model self.now.second) ≡ true) × (p.0.now ≡ self.now.first) × (p.1.now ≡ self.now.second)) }
+    {
+        fits(&self.first, &self.second).then_some((&self.first, &self.second))
+    }
 }
 
 impl<A: Solid, B: Solid> Solid for Pair<A, B> {
@@ -47,43 +54,37 @@ impl<A: Solid, B: Solid> Solid for Pair<A, B> {
     ghost lawful = { λ s. paired_lawful (A.Solid.model s.first) (B.Solid.model s.second) (A.Solid.lawful s.first) (B.Solid.lawful s.second) };
 
     fn corners(&self) -> usize {
-        if fits(&self.first, &self.second) {
-            self.first.corners() + self.second.corners()
-        } else {
-            0
+        match self.parts() {
+            Some((first, second)) => first.corners() + second.corners(),
+            None => 0,
         }
     }
 
     fn triangles(&self) -> usize {
-        if fits(&self.first, &self.second) {
-            self.first.triangles() + self.second.triangles()
-        } else {
-            0
+        match self.parts() {
+            Some((first, second)) => first.triangles() + second.triangles(),
+            None => 0,
         }
     }
 
     fn corner(&self, number: usize) -> Option<Point> {
-        if !fits(&self.first, &self.second) {
-            return None;
-        }
-        let corners = self.first.corners();
+        let (first, second) = self.parts()?;
+        let corners = first.corners();
         if number < corners {
-            self.first.corner(number)
+            first.corner(number)
         } else {
-            self.second.corner(number - corners)
+            second.corner(number - corners)
         }
     }
 
     fn triangle(&self, number: usize) -> Option<Triangle> {
-        if !fits(&self.first, &self.second) {
-            return None;
-        }
-        let triangles = self.first.triangles();
+        let (first, second) = self.parts()?;
+        let triangles = first.triangles();
         if number < triangles {
-            return self.first.triangle(number);
+            return first.triangle(number);
         }
-        let Triangle { a, b, c } = self.second.triangle(number - triangles)?;
-        let corners = self.first.corners() as u32;
+        let Triangle { a, b, c } = second.triangle(number - triangles)?;
+        let corners = first.corners() as u32;
         Some(Triangle {
             a: corners + a,
             b: corners + b,
@@ -92,14 +93,12 @@ impl<A: Solid, B: Solid> Solid for Pair<A, B> {
     }
 
     fn partner(&self, place: usize) -> Option<usize> {
-        if !fits(&self.first, &self.second) {
-            return None;
-        }
-        let places = 3 * self.first.triangles();
+        let (first, second) = self.parts()?;
+        let places = 3 * first.triangles();
         if place < places {
-            return self.first.partner(place);
+            return first.partner(place);
         }
-        let partner = self.second.partner(place - places)?;
+        let partner = second.partner(place - places)?;
         Some(places + partner)
     }
 }

@@ -11,7 +11,7 @@ pub(crate) const MOST: usize = 4096;
 pub(crate) const MOST_PLACES: usize = 12288;
 
 // A side as it runs from one corner to another, by their numbers.
-#[derive(Clone, Copy)]
+#[derive(Clone, Copy, PartialEq, Eq)]
 struct Side {
     from: u32,
     to: u32,
@@ -41,13 +41,6 @@ impl Side {
         }
     }
 
-    // Whether both are the same side.
-    fn is(self, other: Side) -> bool
-        ensures { result ≡ (self.from == other.from && self.to == other.to) }
-    {
-        self.from == other.from && self.to == other.to
-    }
-
     // The side that joins the same corners the other way.
     fn reversed(self) -> Side
         ensures { (result.from ≡ self.to) × (result.to ≡ self.from) }
@@ -66,51 +59,61 @@ impl Side {
     }
 }
 
-// Puts the places of all sides into chains: a head for each key, and from each place a link to the one before it. 0 ends a chain,
-// and other numbers are one more than a place.
-pub(crate) fn link(triangles: &[Triangle], heads: &mut [u32], links: &mut [u32])
-    requires few { length triangles.now ≤ 4096 }
-    requires clear { heads.old ≡ replicate 4096 0 }
-    requires room { sides triangles.now ≤ length links.old }
-    ensures { Linked triangles.now (sides triangles.now) heads.new links.new }
-{
-    for place in 0..3 * triangles.len() {
-        let key = Side::at(triangles, place).key();
-        links[place] = heads[key];
-        heads[key] = place as u32 + 1;
-    }
+// The sides of triangles, each in the chain of its key: a head for each key, and from each place a link to the one before it. 0 ends a
+// chain, and other numbers are one more than a place: with `Option<u16>` in their stead 4,096 triangles took a tenth longer.
+#[derive(Drop)]
+pub(crate) struct Chains<'a> {
+    triangles: &'a [Triangle],
+    heads: [u32; MOST],
+    links: [u32; MOST_PLACES],
+    ghost few: { length triangles.now ≤ 4096 },
+    ghost linked: { Linked triangles.now (sides triangles.now) heads links },
 }
 
-// The partner of the side at a place: none where the pairing rule fails there.
-pub(crate) fn partner_of(
-    triangles: &[Triangle],
-    heads: &[u32],
-    links: &[u32],
-    place: usize,
-) -> Option<usize>
-    requires below { place < sides triangles.now }
-    requires full { length heads.now ≡ 4096 }
-    requires room { sides triangles.now ≤ length links.now }
-    requires linked { Linked triangles.now (sides triangles.now) heads.now links.now }
-    ensures { MatchOption result (PairedAt triangles.now place → ⊥) (λ p. Partners triangles.now place p) }
-{
-    let side = Side::at(triangles, place);
-    let reverse = side.reversed();
-    let mut found = None;
-    let mut ahead = heads[side.key()] as usize;
-    while ahead > 0 {
-        let here = ahead - 1;
-        let other = Side::at(triangles, here);
-        if other.is(side) && here != place {
-            return None;
+impl<'a> Chains<'a> {
+    // Puts the places of all sides into chains.
+    pub(crate) fn link(triangles: &'a [Triangle]) -> Chains<'a>
+        requires { length triangles.now ≤ 4096 }
+        ensures { result.triangles.now ≡ triangles.now }
+    {
+        let mut heads = [0; MOST];
+        let mut links = [0; MOST_PLACES];
+        // by index, since a proof knows nothing of what is written through `iter_mut`
+        for place in 0..3 * triangles.len() {
+            let key = Side::at(triangles, place).key();
+            links[place] = heads[key];
+            heads[key] = place as u32 + 1;
         }
-        if other.is(reverse) {
-            if found.is_some() {
+        Chains {
+            triangles,
+            heads,
+            links,
+        }
+    }
+
+    // The partner of the side at a place: none where the pairing rule fails there.
+    pub(crate) fn partner_of(&self, place: usize) -> Option<usize>
+        requires { place < sides self.now.triangles.now }
+        ensures { MatchOption result (PairedAt self.now.triangles.now place → ⊥) (λ p. Partners self.now.triangles.now place p) }
+    {
+        let side = Side::at(self.triangles, place);
+        let reverse = side.reversed();
+        let mut found = None;
+        let mut ahead = self.heads[side.key()] as usize;
+        while ahead > 0 {
+            let here = ahead - 1;
+            let other = Side::at(self.triangles, here);
+            if other == side && here != place {
                 return None;
             }
-            found = Some(here);
+            if other == reverse {
+                if found.is_some() {
+                    return None;
+                }
+                found = Some(here);
+            }
+            ahead = self.links[here] as usize;
         }
-        ahead = links[here] as usize;
+        found
     }
-    found
 }

@@ -3,7 +3,7 @@ ghost use Rattle.std.specs.Prelude.{◌≡◌, ◌≤◌, length};
 ghost use Rattle.solids.specs.TableLaw.{AllInside, AllNumbered, AllWithin, AllReverse, AllBack, tabled_lawful};
 ghost use Rattle.solids.specs.Tables.{tabled, empty_solid, sides, Loaded};
 
-use crate::matching::test_partners;
+use crate::matching::Mesh;
 use crate::misfit::Misfit;
 use crate::solid::{Solid, Triangle};
 use geometry::units::Point;
@@ -48,7 +48,7 @@ impl<'a> TableSolid<'a> {
         ensures { Loaded corners.now triangles.now partners.now (tabled self.new.corners.now self.new.triangles.now self.new.partners.now) result }
     {
         *self = TableSolid::empty();
-        test_partners(corners, triangles, partners)?;
+        Mesh { corners, triangles }.test_partners(partners)?;
         *self = TableSolid {
             corners,
             triangles,
@@ -80,10 +80,6 @@ impl Solid for TableSolid<'_> {
     }
 
     fn partner(&self, place: usize) -> Option<usize> {
-        if place < self.partners.len() {
-            Some(self.partners[place] as usize)
-        } else {
-            None
-        }
+        self.partners.get(place).map(|partner| *partner as usize)
     }
 }
