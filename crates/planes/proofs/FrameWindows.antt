@@ -1,5 +1,5 @@
 -- The window of a frame.
-use Rattle.std.proofs.Common.{◌≡◌, ℕ, Bool, true, false, cond, ◌&&◌, ltb, leb, ℤ, pos, negsuc, sym, refl, ◌∙◌, arith}
+use Rattle.std.proofs.Common.{◌≡◌, ℕ, Bool, true, false, cond, ◌&&◌, ltb, leb, ℤ, pos, negsuc, refl, ◌∙◌, arith}
 use lib.Signed.{lt_z, le_z}
 use Rattle.std.proofs.lemmas.Bool.Decides.{nat_tests}
 use Rattle.planes.specs.Planes.{PlaneModel, in_window}
@@ -21,12 +21,9 @@ emptied : (s : Bool) (b0 e0 b1 e1 i j : ℕ) → s ≡ (ltb b0 e0 && ltb b1 e1)
 emptied true b0 e0 b1 e1 i j e = refl
 emptied false b0 e0 b1 e1 i j e = grind (arith, nat_tests)
 
-swapped : (a b c d p q r s : Bool) → (((a && b) && (c && d)) && ((p && q) && (r && s))) ≡ (((a && p) && (b && q)) && ((c && r) && (d && s)))
-swapped a b c d p q r s = grind arith
-
 -- A pixel is in the window of a frame where it is in the cutout and in the window below.
 pub window_framed : (m : PlaneModel) (cut : Cutout) (i j : ℕ) → in_window (framed m cut) i j ≡ (in_cutout cut i j && in_window m i j)
 window_framed m cut i j =
     emptied (open_to m cut) (beginning cut.c0 m.c0) (ending cut.c1 m.c1) (beginning cut.r0 m.r0) (ending cut.r1 m.r1) i j refl
     ∙ rw (begins cut.c0 m.c0 i, ends cut.c1 m.c1 i, begins cut.r0 m.r0 j, ends cut.r1 m.r1 j)
-    (sym (swapped (le_z cut.c0 (pos i)) (lt_z (pos i) cut.c1) (le_z cut.r0 (pos j)) (lt_z (pos j) cut.r1) (leb m.c0 i) (ltb i m.c1) (leb m.r0 j) (ltb j m.r1)))
+    (grind arith)
