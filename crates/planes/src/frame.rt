@@ -53,7 +53,7 @@ impl Cutout {
 fn lies(number: u16, begin: i64, end: i64) -> bool
     ensures { result ≡ (int_le begin (pos number) && int_lt (pos number) end) }
 {
-    (begin..end).contains(&(number as i64))
+    begin <= number as i64 && (number as i64) < end
 }
 
 // A number as that of a column or a row: the nearest that there is.
