@@ -2,8 +2,9 @@
 use Rattle.std.specs.Prelude.{◌≡◌, ℕ, ◌<◌, ◌≤◌, min, max, Bool, true, false, cond, ◌&&◌, ◌⊎◌, ℤ, pos, negsuc, int_le, int_lt, nat_lt, refl}
 use Rattle.std.proofs.Common.{sym, inl, inr, arith}
 use Rattle.std.proofs.lemmas.Bool.{and_parts, ltb-true}
-use Rattle.planes.specs.Planes.{PlaneModel, Sound}
+use Rattle.planes.specs.Planes.{PlaneModel, Sound, SameShape}
 use Rattle.planes.specs.declared.frame.Cutout.{Cutout}
+use Rattle.planes.specs.declared.frame.Frame.{Frame}
 
 -- a cutout is any four numbers: columns c0 to c1 − 1 and rows r0 to r1 − 1. Whether a pixel lies in it
 abbrev pub in_cutout : Cutout → ℕ → ℕ → Bool
@@ -41,6 +42,11 @@ framed m cut = record {
   height = m.height;
   count = m.count;
 }
+
+-- what no change alters: the cutout, and the shape of the plane below
+pub record KeepsFrame {P : Type 0} (model : P → PlaneModel) (f g : Frame P) : Type 0 where
+  pub cutout : g.cutout ≡ f.cutout
+  pub below : SameShape (model f.below) (model g.below)
 
 -- ---- it keeps the limits
 at_most : (s : Bool) (a b w : ℕ) → b ≤ w → cond s (min a b) 0 ≤ w

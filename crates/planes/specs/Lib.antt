@@ -1,4 +1,5 @@
 pub mod Planes
+pub mod Stores
 pub mod Rowwise
 pub mod Linear
 pub mod Packed

@@ -6,6 +6,7 @@ use Rattle.std.proofs.lemmas.Bool.{true≢false, ne_eqb}
 use Rattle.geometry.specs.declared.refusal.Refusal.{Refusal}
 use Rattle.geometry.specs.declared.refusal.Refusal.TheVariants as refusal
 use Rattle.planes.specs.Planes.{PlaneModel, Sound}
+use Rattle.planes.specs.Stores.{StoreModel, SoundStore}
 
 -- whether a list of n places holds the pixels of a plane of width w and h rows, one at each place
 abbrev pub fits : ℕ → ℕ → ℕ → Bool
@@ -37,6 +38,10 @@ rowwise modulus w h heights counts = record {
   count = seen w h 0 counts;
 }
 
+-- the plane that a store keeps
+abbrev pub stored : StoreModel → ℕ → ℕ → PlaneModel
+stored s w h = rowwise s.modulus w h s.height s.count
+
 -- ---- it keeps the limits
 -- both sides are 0, or neither
 sides : (w h : ℕ) → (w == 0) ≡ (h == 0) → ((0 < w) × (0 < h)) ⊎ ((◌≡◌ {A = ℕ} 0 0) × (◌≡◌ {A = ℕ} 0 0) × (w ≡ 0) × (h ≡ 0))
@@ -62,3 +67,7 @@ rowwise_sound modulus w h heights counts low high narrow short whole heights_low
       elim (nat_lt i w && nat_lt j h) as (λ b. cond b (heights (j * w + i)) (pos 0) ≤ℤ pos 8193) [ true ↦ heights_high (j * w + i) | false ↦ omega (arith, ints) ];
   counts = λ i j. elim (nat_lt i w && nat_lt j h) as (λ b. cond b (counts (j * w + i)) 0 < modulus) [ true ↦ below (j * w + i) | false ↦ omega arith ];
 }
+
+pub stored_sound : (s : StoreModel) (w h : ℕ) → SoundStore s → w ≤ 256 → h ≤ 256 → (w == 0) ≡ (h == 0) → Sound (stored s w h)
+stored_sound s w h good narrow short whole =
+    rowwise_sound s.modulus w h s.height s.count good.modulus_low good.modulus_high narrow short whole good.heights_low good.heights_high good.counts

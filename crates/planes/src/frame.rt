@@ -1,13 +1,14 @@
 // A layer over any plane: a frame, which narrows the window to a cutout.
 ghost use Rattle.std.specs.Prelude.{◌≡◌, ℕ, ◌-◌, min, ◌&&◌, pos, if◌then◌else◌, int_le, int_lt};
-ghost use Rattle.planes.specs.Planes.{PlaneModel, SameShape, Wiped, Raised, Counted};
-ghost use Rattle.planes.specs.Frames.{in_cutout, at_least0, beginning, ending, shared, framed, framed_sound};
+ghost use Rattle.planes.specs.Planes.{PlaneModel, Wiped, Raised, Counted};
+ghost use Rattle.planes.specs.Frames.{in_cutout, at_least0, beginning, ending, shared, framed, framed_sound, KeepsFrame};
 
 use crate::plane::{Plane, Window};
 use geometry::units::{Column, Row, Step};
 
 // Columns c0 to c1 - 1 and rows r0 to r1 - 1, by any four numbers: a cutout may reach beyond a plane, and one whose end does not lie
-// after its beginning is empty.
+// after its beginning is empty. It shares no function with `Window`, whose columns and rows are types of their own: one generic type
+// for both would be no plainer.
 #[derive(Clone, Copy, PartialEq, Eq, Debug)]
 pub struct Cutout {
     pub c0: i64,
@@ -31,10 +32,10 @@ impl Cutout {
         ensures c1 { result.c1.0 ≡ (if shared self window.c0.0 window.r0.0 window.c1.0 window.r1.0 then ending self.c1 window.c1.0 else 0) }
         ensures r1 { result.r1.0 ≡ (if shared self window.c0.0 window.r0.0 window.c1.0 window.r1.0 then ending self.r1 window.r1.0 else 0) }
     {
-        let c0 = later(self.c0, window.c0.0);
-        let r0 = later(self.r0, window.r0.0);
-        let c1 = earlier(self.c1, window.c1.0);
-        let r1 = earlier(self.r1, window.r1.0);
+        let c0 = clip(self.c0).max(window.c0.0);
+        let r0 = clip(self.r0).max(window.r0.0);
+        let c1 = clip(self.c1).min(window.c1.0);
+        let r1 = clip(self.r1).min(window.r1.0);
         if c0 < c1 && r0 < r1 {
             Window {
                 c0: Column(c0),
@@ -43,12 +44,7 @@ impl Cutout {
                 r1: Row(r1),
             }
         } else {
-            Window {
-                c0: Column(0),
-                r0: Row(0),
-                c1: Column(0),
-                r1: Row(0),
-            }
+            Window::EMPTY
         }
     }
 }
@@ -65,20 +61,6 @@ fn clip(number: i64) -> u16
     ensures { result ≡ min (at_least0 number) 65535 }
 {
     number.clamp(0, u16::MAX as i64) as u16
-}
-
-// The later of two beginnings.
-fn later(number: i64, begin: u16) -> u16
-    ensures { result ≡ min (beginning number begin) 65535 }
-{
-    clip(number).max(begin)
-}
-
-// The earlier of two ends.
-fn earlier(number: i64, end: u16) -> u16
-    ensures { result ≡ ending number end }
-{
-    clip(number).min(end)
 }
 
 // The plane below, seen through a cutout: what lies outside the cutout is not drawn on. Wiping goes below, past the cutout.
@@ -133,39 +115,38 @@ impl<P: Plane> Plane for Frame<P> {
     fn wipe(&mut self, ground: Step)
         ensures after { Wiped (framed (P.Plane.model self.old.below) self.old.cutout) ground.0 (framed (P.Plane.model self.new.below) self.new.cutout) }
         ensures names { P.Plane.names self.new.below ≡ P.Plane.names self.old.below }
-        ensures cutout { self.new.cutout ≡ self.old.cutout }
-        ensures below { SameShape (P.Plane.model self.old.below) (P.Plane.model self.new.below) }
+        ensures frame { KeepsFrame P.Plane.model self.old self.new }
     {
         self.below.wipe(ground);
     }
 
+    #[tactic(auto, using(crate::proofs::FrameWindows::window_framed))]
     fn raise(&mut self, column: Column, row: Row, to: Step)
         ensures after { Raised (framed (P.Plane.model self.old.below) self.old.cutout) column.0 row.0 to.0 (framed (P.Plane.model self.new.below) self.new.cutout) }
         ensures names { P.Plane.names self.new.below ≡ P.Plane.names self.old.below }
-        ensures cutout { self.new.cutout ≡ self.old.cutout }
-        ensures below { SameShape (P.Plane.model self.old.below) (P.Plane.model self.new.below) }
+        ensures frame { KeepsFrame P.Plane.model self.old self.new }
     {
         if self.cutout.holds(column, row) {
             self.below.raise(column, row, to);
         }
     }
 
+    #[tactic(auto, using(crate::proofs::FrameWindows::window_framed))]
     fn more(&mut self, column: Column, row: Row)
         ensures after { Counted (framed (P.Plane.model self.old.below) self.old.cutout) column.0 row.0 1 (framed (P.Plane.model self.new.below) self.new.cutout) }
         ensures names { P.Plane.names self.new.below ≡ P.Plane.names self.old.below }
-        ensures cutout { self.new.cutout ≡ self.old.cutout }
-        ensures below { SameShape (P.Plane.model self.old.below) (P.Plane.model self.new.below) }
+        ensures frame { KeepsFrame P.Plane.model self.old self.new }
     {
         if self.cutout.holds(column, row) {
             self.below.more(column, row);
         }
     }
 
+    #[tactic(auto, using(crate::proofs::FrameWindows::window_framed))]
     fn less(&mut self, column: Column, row: Row)
         ensures after { Counted (framed (P.Plane.model self.old.below) self.old.cutout) column.0 row.0 ((P.Plane.model self.old.below).modulus - 1) (framed (P.Plane.model self.new.below) self.new.cutout) }
         ensures names { P.Plane.names self.new.below ≡ P.Plane.names self.old.below }
-        ensures cutout { self.new.cutout ≡ self.old.cutout }
-        ensures below { SameShape (P.Plane.model self.old.below) (P.Plane.model self.new.below) }
+        ensures frame { KeepsFrame P.Plane.model self.old self.new }
     {
         if self.cutout.holds(column, row) {
             self.below.less(column, row);

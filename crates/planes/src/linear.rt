@@ -1,38 +1,78 @@
 // The linear plane: a list of heights and a list of counts, row by row.
-ghost use Rattle.std.specs.Prelude.{◌≡◌, ℕ, ◌*◌, ◌≤◌, List, [], ◌∷◌, length, if◌then◌else◌};
+ghost use Rattle.std.specs.Prelude.{◌≡◌, ℕ, true, false, List, [], ◌∷◌, MatchOption, if◌then◌else◌};
 ghost use Rattle.planes.specs.Rowwise.{verdict};
-ghost use Rattle.planes.specs.Linear.{linear, linear_sound, linear_fits};
+ghost use Rattle.planes.specs.Linear.{lists, lists_sound, linear_fits};
 
-use crate::heights::{clamp, height_of};
-use crate::plane::{Plane, Window};
-use crate::shape::{Shape, fit};
+use crate::heights::Height;
+use crate::rowwise::Rowwise;
+use crate::shape::Shape;
+use crate::store::{Store, fill_first};
 use geometry::refusal::Refusal;
-use geometry::units::{Column, Row, Step};
 
-// A plane over the caller's lists: the pixel (i, j) of a plane of width w is at the place w * j + i of both. A number in the list of
-// heights that is no height reads as the nearest height.
+// The caller's lists, each with a number for each place. A number in the list of heights that is no height reads as the nearest height.
 #[derive(Drop)]
-pub struct LinearPlane<'a> {
+pub struct Lists<'a> {
     heights: &'a mut [i32],
     counts: &'a mut [u16],
-    shape: Shape,
-    ghost heights_fit: { shape.width * shape.rows ≤ length heights.now },
-    ghost counts_fit: { shape.width * shape.rows ≤ length counts.now },
 }
+
+impl Store for Lists<'_> {
+    ghost kept = { λ s. lists s.heights.now s.counts.now };
+
+    ghost sound = { λ s. lists_sound s.heights.now s.counts.now };
+
+    ghost names = { λ s. s.heights.ghost_name ∷ s.counts.ghost_name ∷ [] };
+
+    fn modulus(&self) -> u32 {
+        LinearPlane::MODULUS
+    }
+
+    fn height(&self, at: usize) -> Height {
+        Height::nearest(self.heights[at])
+    }
+
+    fn count(&self, at: usize) -> u32 {
+        self.counts[at] as u32
+    }
+
+    fn fill(&mut self, places: usize, ground: Height) {
+        fill_first(self.heights, places, ground.value);
+        fill_first(self.counts, places, 0);
+    }
+
+    fn raise(&mut self, at: usize, to: Height) {
+        self.heights[at] = self.height(at).max(to).value;
+    }
+
+    fn more(&mut self, at: usize) {
+        self.counts[at] = self.counts[at].wrapping_add(1);
+    }
+
+    fn less(&mut self, at: usize) {
+        self.counts[at] = self.counts[at].wrapping_sub(1);
+    }
+}
+
+// A plane over the caller's lists.
+pub type LinearPlane<'a> = Rowwise<Lists<'a>>;
 
 impl<'a> LinearPlane<'a> {
     // Counts wrap at this number.
     pub const MODULUS: u32 = 65536;
 
+    // The shape of the plane that the lists hold, with a place for each pixel and no more; none where they do not.
+    fn shape(heights: &[i32], counts: &[u16], width: usize, rows: usize) -> Option<Shape>
+        ensures { MatchOption result (linear_fits width rows heights.now counts.now ≡ false) (λ s. (linear_fits width rows heights.now counts.now ≡ true) × (s.width ≡ width) × (s.rows ≡ rows)) }
+    {
+        Shape::of(width, rows, heights.len()).filter(|_| counts.len() == heights.len())
+    }
+
     // Refuses lists that do not hold a plane of that width and number of rows, each 1 to 256, with a place for each pixel and no more.
     pub fn check(heights: &[i32], counts: &[u16], width: usize, rows: usize) -> Result<(), Refusal>
         ensures { result ≡ verdict (linear_fits width rows heights.now counts.now) }
     {
-        if fit(width, rows, heights.len()) && fit(width, rows, counts.len()) {
-            Ok(())
-        } else {
-            Err(Refusal::Plane)
-        }
+        Self::shape(heights, counts, width, rows).ok_or(Refusal::Plane)?;
+        Ok(())
     }
 
     // The plane that the lists hold; of size 0 where the check refuses them.
@@ -42,81 +82,14 @@ impl<'a> LinearPlane<'a> {
         width: usize,
         rows: usize,
     ) -> LinearPlane<'a>
-        ensures names { (result.heights.ghost_name ≡ heights.entry.ghost_name) × (result.counts.ghost_name ≡ counts.entry.ghost_name) }
-        ensures lists { (result.heights.now ≡ heights.old) × (result.counts.now ≡ counts.old) }
+        ensures names { (result.store.heights.ghost_name ≡ heights.entry.ghost_name) × (result.store.counts.ghost_name ≡ counts.entry.ghost_name) }
+        ensures lists { (result.store.heights.now ≡ heights.old) × (result.store.counts.now ≡ counts.old) }
         ensures size { (result.shape.width ≡ (if linear_fits width rows heights.old counts.old then width else 0)) × (result.shape.rows ≡ (if linear_fits width rows heights.old counts.old then rows else 0)) }
     {
-        let shape = match Self::check(heights, counts, width, rows) {
-            Ok(()) => Shape::new(width, rows),
-            Err(_) => Shape::empty(),
-        };
-        LinearPlane {
-            heights,
-            counts,
+        let shape = Self::shape(heights, counts, width, rows).unwrap_or(Shape::EMPTY);
+        Rowwise {
+            store: Lists { heights, counts },
             shape,
-        }
-    }
-}
-
-impl Plane for LinearPlane<'_> {
-    ghost model = { λ p. linear p.shape.width p.shape.rows p.heights.now p.counts.now };
-
-    ghost sound = { λ p. linear_sound p.shape.width p.shape.rows p.heights.now p.counts.now p.shape.narrow p.shape.short p.shape.whole };
-
-    ghost names = { λ p. p.heights.ghost_name ∷ p.counts.ghost_name ∷ [] };
-
-    fn width(&self) -> u16 {
-        self.shape.width
-    }
-
-    fn rows(&self) -> u16 {
-        self.shape.rows
-    }
-
-    fn modulus(&self) -> u32 {
-        Self::MODULUS
-    }
-
-    fn window(&self) -> Window {
-        self.shape.window()
-    }
-
-    fn height(&self, column: Column, row: Row) -> Option<Step> {
-        let at = self.shape.place(column, row)?;
-        Some(Step(clamp(self.heights[at]) as i64))
-    }
-
-    fn count(&self, column: Column, row: Row) -> Option<u32> {
-        let at = self.shape.place(column, row)?;
-        Some(self.counts[at] as u32)
-    }
-
-    fn wipe(&mut self, ground: Step) {
-        if let Some(ground) = height_of(ground) {
-            for at in 0..self.shape.pixels() {
-                self.heights[at] = ground;
-                self.counts[at] = 0;
-            }
-        }
-    }
-
-    fn raise(&mut self, column: Column, row: Row, to: Step) {
-        if let Some(to) = height_of(to)
-            && let Some(at) = self.shape.place(column, row)
-        {
-            self.heights[at] = clamp(self.heights[at]).max(to);
-        }
-    }
-
-    fn more(&mut self, column: Column, row: Row) {
-        if let Some(at) = self.shape.place(column, row) {
-            self.counts[at] = self.counts[at].wrapping_add(1);
-        }
-    }
-
-    fn less(&mut self, column: Column, row: Row) {
-        if let Some(at) = self.shape.place(column, row) {
-            self.counts[at] = self.counts[at].wrapping_sub(1);
         }
     }
 }

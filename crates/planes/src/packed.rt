@@ -1,14 +1,14 @@
 // The packed plane: one list, row by row, with a pixel's height and count in each number.
-ghost use Rattle.std.specs.Prelude.{◌≡◌, ℕ, ◌+◌, ◌*◌, ◌%◌, ◌<◌, ◌≤◌, min, List, [], ◌∷◌, length, pos, ◌+ℤ◌, neg_ℤ, ◌≤ℤ◌, if◌then◌else◌};
+ghost use Rattle.std.specs.Prelude.{◌≡◌, ℕ, ◌+◌, ◌%◌, min, List, [], ◌∷◌, if◌then◌else◌};
 ghost use Rattle.std.specs.Int.{int_max};
 ghost use Rattle.planes.specs.Rowwise.{verdict};
-ghost use Rattle.planes.specs.Packed.{height_in, count_in, packed, packed_sound, packed_fits};
+ghost use Rattle.planes.specs.Packed.{height_in, count_in, pixels, pixels_sound, packed_fits};
 
-use crate::heights::{LOWEST, height_of};
-use crate::plane::{Plane, Window};
-use crate::shape::{Shape, fit};
+use crate::heights::{Height, LOWEST};
+use crate::rowwise::Rowwise;
+use crate::shape::Shape;
+use crate::store::{Store, fill_first};
 use geometry::refusal::Refusal;
-use geometry::units::{Column, Row, Step};
 
 // The low bits hold the height above the lowest, the others the count.
 const HEIGHT_BITS: u32 = 15;
@@ -22,26 +22,17 @@ const ONE_COUNT: u32 = 0x8000;
 // The highest height above the lowest.
 const TOP: u32 = 16385;
 
-// How far a height, -8192 to 8193, is above the lowest.
-fn above_lowest(height: i32) -> u32
-    requires { (neg_ℤ (pos 8192) ≤ℤ height) × (height ≤ℤ pos 8193) }
-    ensures { pos result ≡ height +ℤ pos 8192 }
-{
-    (height - LOWEST) as u32
-}
-
 // A pixel's height and count in one number.
 #[derive(Clone, Copy)]
 struct Pixel(u32);
 
 impl Pixel {
-    // The pixel of that height, -8192 to 8193, with a count of 0.
-    fn bare(height: i32) -> Pixel
-        requires { (neg_ℤ (pos 8192) ≤ℤ height) × (height ≤ℤ pos 8193) }
-        ensures height { height_in result.0 ≡ height }
+    // The pixel of that height with a count of 0.
+    fn bare(height: Height) -> Pixel
+        ensures height { height_in result.0 ≡ height.value }
         ensures count { count_in result.0 ≡ 0 }
     {
-        Pixel(above_lowest(height))
+        Pixel(height.above_lowest())
     }
 
     // The height above the lowest. What is too high for a height is the highest.
@@ -51,10 +42,12 @@ impl Pixel {
         (self.0 & HEIGHT_MASK).min(TOP)
     }
 
-    fn height(self) -> Step
-        ensures { result.0 ≡ height_in self.0 }
+    fn height(self) -> Height
+        ensures { result.value ≡ height_in self.0 }
     {
-        Step(self.above() as i64 + LOWEST as i64)
+        Height {
+            value: self.above() as i32 + LOWEST,
+        }
     }
 
     fn count(self) -> u32
@@ -63,13 +56,12 @@ impl Pixel {
         self.0 >> HEIGHT_BITS
     }
 
-    // The pixel at least as high as a height, -8192 to 8193, with the count as it is.
-    fn raised(self, to: i32) -> Pixel
-        requires { (neg_ℤ (pos 8192) ≤ℤ to) × (to ≤ℤ pos 8193) }
-        ensures height { height_in result.0 ≡ int_max (height_in self.0) to }
+    // The pixel at least as high as a height, with the count as it is.
+    fn raised(self, to: Height) -> Pixel
+        ensures height { height_in result.0 ≡ int_max (height_in self.0) to.value }
         ensures count { count_in result.0 ≡ count_in self.0 }
     {
-        let above = self.above().max(above_lowest(to));
+        let above = self.above().max(to.above_lowest());
         Pixel((self.count() << HEIGHT_BITS) | above)
     }
 
@@ -90,14 +82,51 @@ impl Pixel {
     }
 }
 
-// A plane over the caller's list: the pixel (i, j) of a plane of width w is at the place w * j + i. Its low 15 bits are the height
-// plus 8192, and read as 8193 where they are more than that; the other 17 bits are the count.
+// The caller's list, with a number for each place. Its low 15 bits are the height plus 8192, and read as 8193 where they are more than
+// that; the other 17 bits are the count.
 #[derive(Drop)]
-pub struct PackedPlane<'a> {
+pub struct Pixels<'a> {
     pixels: &'a mut [u32],
-    shape: Shape,
-    ghost pixels_fit: { shape.width * shape.rows ≤ length pixels.now },
 }
+
+impl Store for Pixels<'_> {
+    ghost kept = { λ s. pixels s.pixels.now };
+
+    ghost sound = { λ s. pixels_sound s.pixels.now };
+
+    ghost names = { λ s. s.pixels.ghost_name ∷ [] };
+
+    fn modulus(&self) -> u32 {
+        PackedPlane::MODULUS
+    }
+
+    fn height(&self, at: usize) -> Height {
+        Pixel(self.pixels[at]).height()
+    }
+
+    fn count(&self, at: usize) -> u32 {
+        Pixel(self.pixels[at]).count()
+    }
+
+    fn fill(&mut self, places: usize, ground: Height) {
+        fill_first(self.pixels, places, Pixel::bare(ground).0);
+    }
+
+    fn raise(&mut self, at: usize, to: Height) {
+        self.pixels[at] = Pixel(self.pixels[at]).raised(to).0;
+    }
+
+    fn more(&mut self, at: usize) {
+        self.pixels[at] = Pixel(self.pixels[at]).more().0;
+    }
+
+    fn less(&mut self, at: usize) {
+        self.pixels[at] = Pixel(self.pixels[at]).less().0;
+    }
+}
+
+// A plane over the caller's list.
+pub type PackedPlane<'a> = Rowwise<Pixels<'a>>;
 
 impl<'a> PackedPlane<'a> {
     // Counts wrap at this number.
@@ -108,86 +137,20 @@ impl<'a> PackedPlane<'a> {
     pub fn check(pixels: &[u32], width: usize, rows: usize) -> Result<(), Refusal>
         ensures { result ≡ verdict (packed_fits width rows pixels.now) }
     {
-        if fit(width, rows, pixels.len()) {
-            Ok(())
-        } else {
-            Err(Refusal::Plane)
-        }
+        Shape::of(width, rows, pixels.len()).ok_or(Refusal::Plane)?;
+        Ok(())
     }
 
     // The plane that the list holds; of size 0 where the check refuses it.
     pub fn new(pixels: &'a mut [u32], width: usize, rows: usize) -> PackedPlane<'a>
-        ensures names { result.pixels.ghost_name ≡ pixels.entry.ghost_name }
-        ensures lists { result.pixels.now ≡ pixels.old }
+        ensures names { result.store.pixels.ghost_name ≡ pixels.entry.ghost_name }
+        ensures lists { result.store.pixels.now ≡ pixels.old }
         ensures size { (result.shape.width ≡ (if packed_fits width rows pixels.old then width else 0)) × (result.shape.rows ≡ (if packed_fits width rows pixels.old then rows else 0)) }
     {
-        let shape = match Self::check(pixels, width, rows) {
-            Ok(()) => Shape::new(width, rows),
-            Err(_) => Shape::empty(),
-        };
-        PackedPlane { pixels, shape }
-    }
-}
-
-impl Plane for PackedPlane<'_> {
-    ghost model = { λ p. packed p.shape.width p.shape.rows p.pixels.now };
-
-    ghost sound = { λ p. packed_sound p.shape.width p.shape.rows p.pixels.now p.shape.narrow p.shape.short p.shape.whole };
-
-    ghost names = { λ p. p.pixels.ghost_name ∷ [] };
-
-    fn width(&self) -> u16 {
-        self.shape.width
-    }
-
-    fn rows(&self) -> u16 {
-        self.shape.rows
-    }
-
-    fn modulus(&self) -> u32 {
-        Self::MODULUS
-    }
-
-    fn window(&self) -> Window {
-        self.shape.window()
-    }
-
-    fn height(&self, column: Column, row: Row) -> Option<Step> {
-        let at = self.shape.place(column, row)?;
-        Some(Pixel(self.pixels[at]).height())
-    }
-
-    fn count(&self, column: Column, row: Row) -> Option<u32> {
-        let at = self.shape.place(column, row)?;
-        Some(Pixel(self.pixels[at]).count())
-    }
-
-    fn wipe(&mut self, ground: Step) {
-        if let Some(ground) = height_of(ground) {
-            let pixel = Pixel::bare(ground);
-            for at in 0..self.shape.pixels() {
-                self.pixels[at] = pixel.0;
-            }
-        }
-    }
-
-    fn raise(&mut self, column: Column, row: Row, to: Step) {
-        if let Some(to) = height_of(to)
-            && let Some(at) = self.shape.place(column, row)
-        {
-            self.pixels[at] = Pixel(self.pixels[at]).raised(to).0;
-        }
-    }
-
-    fn more(&mut self, column: Column, row: Row) {
-        if let Some(at) = self.shape.place(column, row) {
-            self.pixels[at] = Pixel(self.pixels[at]).more().0;
-        }
-    }
-
-    fn less(&mut self, column: Column, row: Row) {
-        if let Some(at) = self.shape.place(column, row) {
-            self.pixels[at] = Pixel(self.pixels[at]).less().0;
+        let shape = Shape::of(width, rows, pixels.len()).unwrap_or(Shape::EMPTY);
+        Rowwise {
+            store: Pixels { pixels },
+            shape,
         }
     }
 }

@@ -13,6 +13,16 @@ pub struct Window {
     pub r1: Row,
 }
 
+impl Window {
+    // No pixels.
+    pub const EMPTY: Window = Window {
+        c0: Column(0),
+        r0: Row(0),
+        c1: Column(0),
+        r1: Row(0),
+    };
+}
+
 // A height and a count for each pixel. Counts wrap at the plane's modulus. Questions alter nothing; changes alter heights and counts
 // only, never the width, the rows, the modulus or the window.
 pub trait Plane {
@@ -70,7 +80,7 @@ pub trait Plane {
         ensures names { names self.new ≡ names self.old };
 }
 
-// A borrowed plane is a plane.
+// A borrowed plane is a plane. Each call is passed on by hand, as std's traits do it: there is no plainer form.
 impl<P: Plane> Plane for &mut P {
     ghost model = { λ p. P.Plane.model p.now };
 

@@ -1,5 +1,5 @@
 // The shape of a plane whose pixels lie row by row.
-ghost use Rattle.std.specs.Prelude.{◌≡◌, ℕ, ◌+◌, ◌*◌, ◌<◌, ◌≤◌, IfSome, ◌==◌};
+ghost use Rattle.std.specs.Prelude.{◌≡◌, ℕ, ◌+◌, ◌*◌, ◌<◌, ◌≤◌, true, false, IfSome, MatchOption, ◌==◌};
 ghost use Rattle.planes.specs.Rowwise.{fits, place_of};
 
 use crate::plane::Window;
@@ -15,28 +15,21 @@ pub(crate) struct Shape {
     ghost whole: { (width == 0) ≡ (rows == 0) },
 }
 
-// Whether a list of that length holds the pixels of a plane of that width and number of rows, one at each place.
-pub(crate) fn fit(width: usize, rows: usize, length: usize) -> bool
-    ensures { result ≡ fits width rows length }
-{
-    1 <= width && width <= 256 && 1 <= rows && rows <= 256 && length == width * rows
-}
-
 impl Shape {
     // No pixels.
-    pub(crate) fn empty() -> Shape
-        ensures { (result.width ≡ 0) × (result.rows ≡ 0) }
-    {
-        Shape { width: 0, rows: 0 }
-    }
+    pub(crate) const EMPTY: Shape = Shape { width: 0, rows: 0 };
 
-    pub(crate) fn new(width: usize, rows: usize) -> Shape
-        requires { (1 ≤ width) × ((width ≤ 256) × ((1 ≤ rows) × (rows ≤ 256))) }
-        ensures { (result.width ≡ width) × (result.rows ≡ rows) }
+    // The shape of that width and number of rows, each 1 to 256, if a list of that length holds its pixels, one at each place.
+    pub(crate) fn of(width: usize, rows: usize, length: usize) -> Option<Shape>
+        ensures { MatchOption result (fits width rows length ≡ false) (λ s. (fits width rows length ≡ true) × (s.width ≡ width) × (s.rows ≡ rows)) }
     {
-        Shape {
-            width: width as u16,
-            rows: rows as u16,
+        if (1..=256).contains(&width) && (1..=256).contains(&rows) && length == width * rows {
+            Some(Shape {
+                width: width as u16,
+                rows: rows as u16,
+            })
+        } else {
+            None
         }
     }
 
