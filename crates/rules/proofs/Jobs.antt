@@ -2,7 +2,7 @@
 use Rattle.std.proofs.Common.{◌≡◌, ℕ, ◌+◌, ◌<◌, ◌≤◌, List, [], ◌∷◌, ◌++◌, map, length, Some, None, Option, sym, refl, ap, ◌∙◌, subst, ⊎_elim, arith}
 use Rattle.std.proofs.lemmas.Bool.{and_parts, and_from, cases_lt}
 use Rattle.planes.specs.declared.frame.Cutout.{Cutout}
-use Rattle.text.specs.declared.entry.Entry.{Entry}
+use Rattle.text.specs.Entries.{Entry}
 use Rattle.text.specs.declared.entry.What.{What}
 use Rattle.text.specs.Spelling.{written}
 use Rattle.rules.specs.declared.room.Room.{Room}

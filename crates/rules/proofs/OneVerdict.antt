@@ -6,11 +6,10 @@ use Rattle.solids.specs.declared.misfit.Misfit.{Misfit}
 use Rattle.solids.proofs.Verdicts.{unmatched_once, unmatched_unpaired, partnered_paired}
 use Rattle.text.specs.declared.head.Head.{Head}
 use Rattle.text.specs.declared.head.Head.TheVariants as head
-use Rattle.text.specs.declared.entry.Entry.{Entry}
 use Rattle.text.specs.declared.fault.Fault.{Fault}
 use Rattle.text.specs.Text.{FirstLine}
-use Rattle.text.specs.Heads.{word}
-use Rattle.text.specs.Entries.{entry_head, spelt}
+use Rattle.text.specs.Heads.{word, head_of}
+use Rattle.text.specs.Entries.{Entry, spelt}
 use Rattle.text.specs.Lines.{Reads, Unreadable}
 use Rattle.text.specs.Spelling.{line_of, written}
 use Rattle.text.specs.Faults.{fault_at}
@@ -60,7 +59,7 @@ some_left e to none = omega (arith, ap length none, length-append (line_of e) (1
 
 module _ (room : Room) where
   -- a face that passes is next
-  face_of_lem : {before : List Entry} (e : Entry) (to : List ℕ) → Passes room before e → entry_head e ≡ head.Face → FaceNext (line_of e ++ 10 ∷ to)
+  face_of_lem : {before : List Entry} (e : Entry) (to : List ℕ) → Passes room before e → head_of e ≡ head.Face → FaceNext (line_of e ++ 10 ∷ to)
   face_of_lem {before} e to p is =
       record {
         line = line_of e;

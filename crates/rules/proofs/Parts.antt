@@ -2,8 +2,8 @@
 use Rattle.std.proofs.Common.{◌≡◌, List, [], ◌∷◌, ◌++◌, map, length, ℤ, Some, None, Option, sym, refl, ap, ◌∙◌, append-nil}
 use Rattle.std.proofs.lemmas.List.{length-map}
 use Rattle.planes.specs.declared.frame.Cutout.{Cutout}
-use Rattle.text.specs.declared.entry.Entry.{Entry}
-use Rattle.text.specs.declared.entry.Entry.TheVariants as entry
+use Rattle.text.specs.Entries.{Entry}
+use Rattle.text.specs.declared.head.Statement.TheVariants as entry
 use Rattle.text.specs.declared.entry.PlaneKind.{PlaneKind}
 use Rattle.text.specs.declared.entry.What.{What}
 use Rattle.rules.specs.declared.setup.Setup.{Setup}

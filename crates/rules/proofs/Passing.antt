@@ -15,10 +15,10 @@ use Rattle.survey.specs.Refusals.{unless, is_ground, has_triangles, stays_small}
 use Rattle.survey.specs.Account.{Shadow, all_sunward}
 use Rattle.text.specs.declared.head.Head.{Head}
 use Rattle.text.specs.declared.head.Head.TheVariants as head
-use Rattle.text.specs.declared.entry.Entry.{Entry}
-use Rattle.text.specs.declared.entry.Entry.TheVariants as entry
+use Rattle.text.specs.Heads.{head_of}
+use Rattle.text.specs.Entries.{Entry}
+use Rattle.text.specs.declared.head.Statement.TheVariants as entry
 use Rattle.text.specs.declared.entry.What.{What}
-use Rattle.text.specs.Entries.{entry_head}
 use Rattle.text.specs.Order.{MayFollow, rank}
 use Rattle.rules.specs.declared.room.Room.{Room}
 use Rattle.rules.specs.Contents.{gathered, corner_in, face_in, cast_in, points_of, triangles_of, solid_of, total_of}
@@ -75,9 +75,9 @@ gathered_none f all before es is none =
     sym (ap (gathered f) is ∙ gathered-++ f before es ∙ ap (λ l. gathered f before ++ l) none ∙ append-nil (gathered f before))
 
 -- the lines before a lay or a cast have all the corners and faces
-pub same_tables : (all before : List Entry) (e : Entry) (es : List Entry) → all ≡ before ++ e ∷ es → 5 ≤ rank (entry_head e) → InOrder (Some (entry_head e)) es → SameTables before all
+pub same_tables : (all before : List Entry) (e : Entry) (es : List Entry) → all ≡ before ++ e ∷ es → 5 ≤ rank (head_of e) → InOrder (Some (head_of e)) es → SameTables before all
 same_tables all before e es is high o =
-    let none = late_none (entry_head e) (e ∷ es) high (inr (refl, omega arith), o) in
+    let none = late_none (head_of e) (e ∷ es) high (inr (refl, omega arith), o) in
     record { points = gathered_none corner_in all before (e ∷ es) is none.0; triangles = gathered_none face_in all before (e ∷ es) is none.1 }
 
 pub same_matching : (es fs : List Entry) → SameTables es fs → Matching es → Matching fs
@@ -109,7 +109,7 @@ past_faces o h m is other =
     let m' : MayFollow (Some head.Face) h = subst (λ (x : Option Head). MayFollow x h) is m in
     ⊎_elim (λ p. omega (arith, p.0)) (λ p. absurd (other (rank_face h p.0))) m'
 
-some_face : (e : Entry) → entry_head e ≡ head.Face → 0 < length (face_in e)
+some_face : (e : Entry) → head_of e ≡ head.Face → 0 < length (face_in e)
 some_face (entry.Plan w r k) is = absurd (omega (arith, ap rank is))
 some_face (entry.Ground g) is = absurd (omega (arith, ap rank is))
 some_face (entry.Frame c0 r0 c1 r1) is = absurd (omega (arith, ap rank is))
@@ -129,7 +129,7 @@ last_after_lem : (o : Option Head) (es : List Entry) → last_after o es ≡ Som
 last_after_lem o [] is = inl is
 last_after_lem o (e ∷ es) is =
     let long = length-append (face_in e) (triangles_of es) in
-    ⊎_elim (λ p. let q = some_face e (the_head _ _ p) in inr (omega arith)) (λ p. inr (omega arith)) (last_after_lem (Some (entry_head e)) es is)
+    ⊎_elim (λ p. let q = some_face e (the_head _ _ p) in inr (omega arith)) (λ p. inr (omega arith)) (last_after_lem (Some (head_of e)) es is)
 
 -- where a face comes last, there are faces
 pub last_face : (es : List Entry) → last_of es ≡ Some head.Face → 0 < length (triangles_of es)
@@ -156,7 +156,7 @@ total_split S all before es is =
 -- ---- sound lines pass
 module _ (room : Room) (all : List Entry) (s : Sound room all) where
   -- a fine line passes its test
-  kept_of : (before : List Entry) (e : Entry) (es : List Entry) → all ≡ before ++ e ∷ es → InOrder (Some (entry_head e)) es → Fine room all e → line_refusal room before e ≡ None
+  kept_of : (before : List Entry) (e : Entry) (es : List Entry) → all ≡ before ++ e ∷ es → InOrder (Some (head_of e)) es → Fine room all e → line_refusal room before e ≡ None
   kept_of before (entry.Plan w r k) es is o f = cond-true _ _ _ f.0 ∙ cond-true _ _ _ f.1
   kept_of before (entry.Ground g) es is o f = cond-true _ _ _ f
   kept_of before (entry.Frame c0 r0 c1 r1) es is o f = refl
@@ -183,9 +183,9 @@ module _ (room : Room) (all : List Entry) (s : Sound room all) where
       ∙ cond-true _ _ _ f.1 ∙ cond-true _ _ _ (le-leb (total_of before + sunward_total (solid_of [] before) d) 1000000 small)
 
   -- the faces before a line that is none are matched
-  settled_of : (before : List Entry) (e : Entry) (es : List Entry) → all ≡ before ++ e ∷ es → MayFollow (last_of before) (entry_head e) → InOrder (Some (entry_head e)) es → last_of before ≡ Some head.Face → (entry_head e ≡ head.Face → ⊥) → Matching before
+  settled_of : (before : List Entry) (e : Entry) (es : List Entry) → all ≡ before ++ e ∷ es → MayFollow (last_of before) (head_of e) → InOrder (Some (head_of e)) es → last_of before ≡ Some head.Face → (head_of e ≡ head.Face → ⊥) → Matching before
   settled_of before e es is m o last other =
-      let t = same_tables all before e es is (past_faces (last_of before) (entry_head e) m last other) o in
+      let t = same_tables all before e es is (past_faces (last_of before) (head_of e) m last other) o in
       same_matching all before (back_tables before all t) (s.solid (omega (arith, last_face before last, ap length t.triangles)))
 
   -- the lines es, which are the rest of all
@@ -238,7 +238,7 @@ few_from_passes room before (e ∷ es) p = (p.0.few, few_from_passes room (befor
 
 module _ (room : Room) (all : List Entry) where
   -- a line that passes its test is fine
-  fine_of : (before : List Entry) (e : Entry) (es : List Entry) → all ≡ before ++ e ∷ es → InOrder (Some (entry_head e)) es → line_refusal room before e ≡ None → Fine room all e
+  fine_of : (before : List Entry) (e : Entry) (es : List Entry) → all ≡ before ++ e ∷ es → InOrder (Some (head_of e)) es → line_refusal room before e ≡ None → Fine room all e
   fine_of before (entry.Plan w r k) es is o kept =
       let a = unless_none _ _ _ kept in
       (a.0, (unless_none _ _ _ a.1).0)
@@ -300,7 +300,7 @@ module _ (room : Room) (all : List Entry) where
   face_step before (entry.Cast w x y z) kept h = no_more _ h
 
   -- a cast that passes keeps the total small
-  cast_step : (before : List Entry) (e : Entry) (es : List Entry) → all ≡ before ++ e ∷ es → InOrder (Some (entry_head e)) es → line_refusal room before e ≡ None → total_with (solid_of [] all) before ≤ 1000000 → total_with (solid_of [] all) before + all_sunward (cast_in (solid_of [] all) e) ≤ 1000000
+  cast_step : (before : List Entry) (e : Entry) (es : List Entry) → all ≡ before ++ e ∷ es → InOrder (Some (head_of e)) es → line_refusal room before e ≡ None → total_with (solid_of [] all) before ≤ 1000000 → total_with (solid_of [] all) before + all_sunward (cast_in (solid_of [] all) e) ≤ 1000000
   cast_step before (entry.Plan w r k) es is o kept h = omega arith
   cast_step before (entry.Ground g) es is o kept h = omega arith
   cast_step before (entry.Frame c0 r0 c1 r1) es is o kept h = omega arith
@@ -326,12 +326,12 @@ module _ (room : Room) (all : List Entry) where
   Pending before = 0 < length (triangles_of before) → (last_of before ≡ Some head.Face) ⊎ Matching all
 
   -- a line that is no face
-  other_step : (before : List Entry) (e : Entry) (es : List Entry) → all ≡ before ++ e ∷ es → InOrder (last_of before) (e ∷ es) → Passes room before e → (entry_head e ≡ head.Face → ⊥) → face_in e ≡ [] → Pending before → Pending (before ++ e ∷ [])
+  other_step : (before : List Entry) (e : Entry) (es : List Entry) → all ≡ before ++ e ∷ es → InOrder (last_of before) (e ∷ es) → Passes room before e → (head_of e ≡ head.Face → ⊥) → face_in e ≡ [] → Pending before → Pending (before ++ e ∷ [])
   other_step before e es is o p other none pending some =
       let had : 0 < length (triangles_of before) = omega (arith, some, count_split face_in (before ++ e ∷ []) before (e ∷ []) refl, ap length (append-nil (face_in e) ∙ none)) in
       ⊎_elim
       (λ (last : last_of before ≡ Some head.Face).
-      inr (same_matching before all (same_tables all before e es is (past_faces (last_of before) (entry_head e) o.0 last other) o.1) (p.settled last other)))
+      inr (same_matching before all (same_tables all before e es is (past_faces (last_of before) (head_of e) o.0 last other) o.1) (p.settled last other)))
       (λ (m : Matching all). inr m)
       (pending had)
 

@@ -7,12 +7,11 @@ use Rattle.geometry.specs.declared.refusal.Refusal.TheVariants as refusal
 use Rattle.solids.specs.declared.misfit.Misfit.{Misfit}
 use Rattle.text.specs.declared.head.Head.{Head}
 use Rattle.text.specs.declared.head.Head.TheVariants as head
-use Rattle.text.specs.declared.entry.Entry.{Entry}
+use Rattle.text.specs.Entries.{Entry}
 use Rattle.text.specs.declared.fault.Fault.{Fault}
 use Rattle.text.specs.Pieces.{glued, pieces}
 use Rattle.text.specs.Text.{FirstLine, ended}
-use Rattle.text.specs.Heads.{word}
-use Rattle.text.specs.Entries.{entry_head}
+use Rattle.text.specs.Heads.{word, head_of}
 use Rattle.text.specs.Order.{MayFollow, rank}
 use Rattle.text.specs.Lines.{Parted, Reads, Unreadable}
 use Rattle.text.specs.Spelling.{line_of, written}
@@ -32,9 +31,9 @@ written-++ [] fs = refl
 written-++ (e ∷ es) fs =
     ap (λ (l : List ℕ). line_of e ++ 10 ∷ l) (written-++ es fs) ∙ sym (append_assoc (line_of e) (10 ∷ written es) (written fs))
 
-pub last_push : (o : Option Head) (es : List Entry) (e : Entry) → last_after o (es ++ e ∷ []) ≡ Some (entry_head e)
+pub last_push : (o : Option Head) (es : List Entry) (e : Entry) → last_after o (es ++ e ∷ []) ≡ Some (head_of e)
 last_push o [] e = refl
-last_push o (x ∷ es) e = last_push (Some (entry_head x)) es e
+last_push o (x ∷ es) e = last_push (Some (head_of x)) es e
 
 pub gathered-++ : {A : Type 0} (f : Entry → List A) (es fs : List Entry) → gathered f (es ++ fs) ≡ gathered f es ++ gathered f fs
 gathered-++ f [] fs = refl
@@ -62,13 +61,13 @@ pass_push room front (x ∷ es) e all p =
 -- a line that says e is the one that is written for it
 pub line_is : (o : Option Head) (l : List ℕ) (end : Bool) (e : Entry) → Reads o l end e → l ≡ line_of e
 line_is o l end e r =
-    sym (glued-pieces 9 l) ∙ ap (glued 9) r.headed.parts ∙ ap (λ (fs : List (List ℕ)). glued 9 (word (entry_head e) ∷ fs)) r.says.text
+    sym (glued-pieces 9 l) ∙ ap (glued 9) r.headed.parts ∙ ap (λ (fs : List (List ℕ)). glued 9 (word (head_of e) ∷ fs)) r.says.text
 
 -- a line that says e is next, so e is a face if a face is next
-pub same_head_next : {o : Option Head} {from l to : List ℕ} {end : Bool} {e : Entry} → FirstLine from l end to → Reads o l end e → FaceNext from → entry_head e ≡ head.Face
+pub same_head_next : {o : Option Head} {from l to : List ℕ} {end : Bool} {e : Entry} → FirstLine from l end to → Reads o l end e → FaceNext from → head_of e ≡ head.Face
 same_head_next {o} {from} {l} {to} {end} {e} cut r next =
     let s = same_cut from l next.line to next.to end next.end cut next.cut in
-    same_word (entry_head e) head.Face (first_of (sym r.headed.parts ∙ ap (pieces 9) s.line ∙ next.parts))
+    same_word (head_of e) head.Face (first_of (sym r.headed.parts ∙ ap (pieces 9) s.line ∙ next.parts))
 
 -- ---- the end of a text
 pub no_line : (l to : List ℕ) (end : Bool) → FirstLine [] l end to → ⊥
@@ -157,9 +156,9 @@ module _ {room : Room} {text : List ℕ} {before : List Entry} {from : List ℕ}
 later : (room : Room) (front es : List Entry) (h : Head) → 1 ≤ rank h → last_of front ≡ Some h → AllPass room front es → (k : Head) × ((last_after (Some h) es ≡ Some k) × (1 ≤ rank k))
 later room front [] h p is all = (h, (refl, p))
 later room front (e ∷ es) h p is all =
-    let on : MayFollow (Some h) (entry_head e) = subst (λ (o : Option Head). MayFollow o (entry_head e)) is all.0.placed in
-    let past : 1 ≤ rank (entry_head e) = ⊎_elim (λ q. omega (arith, q.0)) (λ q. omega (arith, q.1)) on in
-    later room (front ++ e ∷ []) es (entry_head e) past (last_push None front e) all.1
+    let on : MayFollow (Some h) (head_of e) = subst (λ (o : Option Head). MayFollow o (head_of e)) is all.0.placed in
+    let past : 1 ≤ rank (head_of e) = ⊎_elim (λ q. omega (arith, q.0)) (λ q. omega (arith, q.1)) on in
+    later room (front ++ e ∷ []) es (head_of e) past (last_push None front e) all.1
 
 differ : (h : Head) (o : Option Head) → o ≡ Some h → o ≡ None → ⊥
 differ h o p q = let z : ◌≡◌ {A = ℕ} 0 1 = cc in omega arith
@@ -171,8 +170,8 @@ pub few_lines : (room : Room) (es : List Entry) → AllPass room [] es → (last
 few_lines room [] all h = omega arith
 few_lines room (e ∷ []) all h = omega arith
 few_lines room (e ∷ f ∷ es) all h =
-    let past : 1 ≤ rank (entry_head f) = ⊎_elim (λ q. omega (arith, q.0)) (λ q. omega (arith, q.1)) all.1.0.placed in
-    let k = later room (e ∷ f ∷ []) es (entry_head f) past refl all.1.1 in
+    let past : 1 ≤ rank (head_of f) = ⊎_elim (λ q. omega (arith, q.0)) (λ q. omega (arith, q.1)) all.1.0.placed in
+    let k = later room (e ∷ f ∷ []) es (head_of f) past refl all.1.1 in
     ⊎_elim (λ none. absurd (differ k.0 _ k.1.0 none))
     (λ plan. absurd (omega (arith, k.1.1, ap rank (same_head k.0 head.Plan _ k.1.0 plan)))) h
 

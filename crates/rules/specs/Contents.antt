@@ -6,8 +6,8 @@ use Rattle.solids.specs.Solids.{SolidModel}
 use Rattle.solids.specs.Tables.{tabled}
 use Rattle.solids.specs.declared.solid.Triangle.{Triangle}
 use Rattle.survey.specs.Account.{Shadow, Account, account, all_sunward}
-use Rattle.text.specs.declared.entry.Entry.{Entry}
-use Rattle.text.specs.declared.entry.Entry.TheVariants as entry
+use Rattle.text.specs.Entries.{Entry}
+use Rattle.text.specs.declared.head.Statement.TheVariants as entry
 use Rattle.text.specs.declared.entry.PlaneKind.TheVariants.{Line}
 use Rattle.rules.specs.declared.setup.Setup.{Setup}
 

@@ -4,11 +4,10 @@ use Rattle.geometry.specs.Vectors.{vector}
 use Rattle.geometry.specs.Limits.{in_run_limits}
 use Rattle.planes.specs.declared.frame.Cutout.{Cutout}
 use Rattle.survey.specs.Refusals.{is_ground}
-use Rattle.text.specs.declared.entry.Entry.{Entry}
-use Rattle.text.specs.declared.entry.Entry.TheVariants as entry
+use Rattle.text.specs.declared.head.Statement.TheVariants as entry
 use Rattle.text.specs.declared.entry.PlaneKind.{PlaneKind}
 use Rattle.text.specs.declared.entry.What.{What}
-use Rattle.text.specs.Entries.{Few}
+use Rattle.text.specs.Entries.{Entry, Few}
 use Rattle.text.specs.Spelling.{written}
 use Rattle.rules.specs.declared.room.Room.{Room}
 use Rattle.rules.specs.declared.setup.Setup.{Setup}

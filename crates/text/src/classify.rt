@@ -1,6 +1,6 @@
 // The tests of a line's text.
 ghost use Rattle.std.specs.Prelude.{◌≡◌, ℕ, Some, MatchResult};
-ghost use Rattle.text.specs.Entries.{entry_head};
+ghost use Rattle.text.specs.Heads.{head_of};
 ghost use Rattle.text.specs.Lines.{Unreadable, Reads as LineReads};
 ghost use Rattle.text.specs.Order.{last_head};
 
@@ -14,7 +14,7 @@ use geometry::refusal::Refusal;
 
 // What a line says after those before it, and the stage behind it; or why it is refused for its text.
 pub fn classify(stage: Stage, line: Line) -> Result<(Entry, Stage), Fault>
-    ensures { MatchResult result (λ es. LineReads (last_head stage) line.entry.bytes.now line.entry.ended es.0 × (last_head es.1 ≡ Some (entry_head es.0))) (λ f. Unreadable (last_head stage) line.entry.bytes.now line.entry.ended line.entry.number f) }
+    ensures { MatchResult result (λ es. LineReads (last_head stage) line.entry.bytes.now line.entry.ended es.0 × (last_head es.1 ≡ Some (head_of es.0))) (λ f. Unreadable (last_head stage) line.entry.bytes.now line.entry.ended line.entry.number f) }
 {
     let misheaded = Fault::at(Refusal::Head, line.number);
     if !line.ended {

@@ -71,4 +71,4 @@ returns-in-Err c =
     let r = c.in_ok-record.record in
     let same : Parted c.args.line.bytes.now (head_of r) (fields r) = parted c.args.line.bytes.now c.in_ok-head.head c.parts-parts.ensures.parts cut is ∙ ap (λ (h : Head). word h ∷ left c.next_part.new.self) (sym made.0) ∙ ap (λ (fs : List (List ℕ)). word (head_of r) ∷ fs) made.1 in
     subst (Unreadable _ _ _ _) (sym c.in_field.ensures)
-    (misspelt (head_of r) (fields r) c.in-Err.field-0.0 (record { whole = c.if-not-line.false; parts = same; placed = subst (MayFollow _) (sym made.0) may.0 }) (fields_shape r) c.in-Err.ensures)
+    (misspelt (head_of r) (fields r) c.in-Err.field-0.0 (record { whole = c.if-not-line.false; parts = same; placed = subst (MayFollow _) (sym made.0) may.0 }) (fields_shape _ _ _ r) c.in-Err.ensures)
