@@ -1,6 +1,8 @@
 -- Lines in order pass one after the other, and their faces are settled, exactly if all of them together are sound: each line's own test
 -- holds with the faces of all lines, there are few enough corners, faces and sunward triangles in all, and the faces match.
 use Rattle.std.proofs.Common.{◌≡◌, ℕ, ◌+◌, ◌*◌, ◌<◌, ◌≤◌, Bool, true, false, ◌&&◌, ltb, leb, ◌⊎◌, List, [], ◌∷◌, ◌++◌, length, ℤ, Some, None, Option, sym, refl, ap, ◌∙◌, subst, inl, inr, ⊎_elim, append_assoc, append-nil, arith, length-append}
+use Rattle.std.specs.List.{flat_map}
+use Rattle.std.proofs.lemmas.List.Concat.{flat_map-append}
 use Rattle.std.proofs.lemmas.Bool.{ltb-true, leb-true, lt-ltb, le-leb, and_parts, and_from, cond-true}
 use Rattle.geometry.specs.Vectors.{vector}
 use Rattle.geometry.specs.Limits.{in_run_limits}
@@ -21,11 +23,11 @@ use Rattle.text.specs.declared.head.Statement.TheVariants as entry
 use Rattle.text.specs.declared.entry.What.{What}
 use Rattle.text.specs.Order.{MayFollow, rank}
 use Rattle.rules.specs.declared.room.Room.{Room}
-use Rattle.rules.specs.Contents.{gathered, corner_in, face_in, cast_in, points_of, triangles_of, solid_of, total_of}
+use Rattle.rules.specs.Contents.{corner_in, face_in, cast_in, points_of, triangles_of, solid_of, total_of}
 use Rattle.rules.specs.Tests.{is_size, size_of, holds_pixels, holds_face, line_refusal}
 use Rattle.rules.specs.Verdict.{last_after, last_of, Matching, Passes, AllPass}
 use Rattle.rules.specs.Job.{AllFew}
-use Rattle.rules.proofs.Progress.{gathered-++, last_push}
+use Rattle.rules.proofs.Progress.{last_push}
 use Rattle.rules.proofs.Grammar.{InOrder, rises}
 
 -- ---- sound lines
@@ -70,15 +72,15 @@ pub record SameTables (es fs : List Entry) : Type 0 where
   pub triangles : triangles_of es ≡ triangles_of fs
 
 -- lines of which f takes nothing can be left out at the end
-gathered_none : {A : Type 0} (f : Entry → List A) (all before es : List Entry) → all ≡ before ++ es → gathered f es ≡ [] → gathered f before ≡ gathered f all
-gathered_none f all before es is none =
-    sym (ap (gathered f) is ∙ gathered-++ f before es ∙ ap (λ l. gathered f before ++ l) none ∙ append-nil (gathered f before))
+flat_map_none : {A : Type 0} (f : Entry → List A) (all before es : List Entry) → all ≡ before ++ es → flat_map f es ≡ [] → flat_map f before ≡ flat_map f all
+flat_map_none f all before es is none =
+    sym (ap (flat_map f) is ∙ flat_map-append f before es ∙ ap (λ l. flat_map f before ++ l) none ∙ append-nil (flat_map f before))
 
 -- the lines before a lay or a cast have all the corners and faces
 pub same_tables : (all before : List Entry) (e : Entry) (es : List Entry) → all ≡ before ++ e ∷ es → 5 ≤ rank (head_of e) → InOrder (Some (head_of e)) es → SameTables before all
 same_tables all before e es is high o =
     let none = late_none (head_of e) (e ∷ es) high (inr (refl, omega arith), o) in
-    record { points = gathered_none corner_in all before (e ∷ es) is none.0; triangles = gathered_none face_in all before (e ∷ es) is none.1 }
+    record { points = flat_map_none corner_in all before (e ∷ es) is none.0; triangles = flat_map_none face_in all before (e ∷ es) is none.1 }
 
 pub same_matching : (es fs : List Entry) → SameTables es fs → Matching es → Matching fs
 same_matching es fs s m = (
@@ -118,28 +120,22 @@ some_face (entry.Face a b c) is = omega arith
 some_face (entry.Lay w) is = absurd (omega (arith, ap rank is))
 some_face (entry.Cast w x y z) is = absurd (omega (arith, ap rank is))
 
-the_head : (h k : Head) → ◌≡◌ {A = Option Head} (Some h) (Some k) → h ≡ k
-the_head h k e = cc
-
-no_head : (h : Head) → ◌≡◌ {A = Option Head} None (Some h) → ⊥
-no_head h e = let z : ◌≡◌ {A = ℕ} 0 1 = cc in omega arith
-
 -- a face that comes last is among the lines, or was last before them
 last_after_lem : (o : Option Head) (es : List Entry) → last_after o es ≡ Some head.Face → (o ≡ Some head.Face) ⊎ (0 < length (triangles_of es))
 last_after_lem o [] is = inl is
 last_after_lem o (e ∷ es) is =
     let long = length-append (face_in e) (triangles_of es) in
-    ⊎_elim (λ p. let q = some_face e (the_head _ _ p) in inr (omega arith)) (λ p. inr (omega arith)) (last_after_lem (Some (head_of e)) es is)
+    ⊎_elim (λ p. let q = some_face e cc in inr (omega arith)) (λ p. inr (omega arith)) (last_after_lem (Some (head_of e)) es is)
 
 -- where a face comes last, there are faces
 pub last_face : (es : List Entry) → last_of es ≡ Some head.Face → 0 < length (triangles_of es)
-last_face es is = ⊎_elim (λ p. absurd (no_head _ p)) (λ p. p) (last_after_lem None es is)
+last_face es is = ⊎_elim (λ p. cc) (λ p. p) (last_after_lem None es is)
 
 -- ---- counts and totals
--- what is gathered of all lines is as much as of the first and of the rest
-count_split : {A : Type 0} (f : Entry → List A) (all before es : List Entry) → all ≡ before ++ es → length (gathered f all) ≡ length (gathered f before) + length (gathered f es)
+-- what is flat_map of all lines is as much as of the first and of the rest
+count_split : {A : Type 0} (f : Entry → List A) (all before es : List Entry) → all ≡ before ++ es → length (flat_map f all) ≡ length (flat_map f before) + length (flat_map f es)
 count_split f all before es is =
-    ap (λ (l : List Entry). length (gathered f l)) is ∙ ap length (gathered-++ f before es) ∙ length-append (gathered f before) (gathered f es)
+    ap (λ (l : List Entry). length (flat_map f l)) is ∙ ap length (flat_map-append f before es) ∙ length-append (flat_map f before) (flat_map f es)
 
 sunward-++ : (xs ys : List Shadow) → all_sunward (xs ++ ys) ≡ all_sunward xs + all_sunward ys
 sunward-++ [] ys = omega arith
@@ -147,11 +143,11 @@ sunward-++ (x ∷ xs) ys = let h = sunward-++ xs ys in omega arith
 
 -- the sunward triangles of the casts, each with the solid S
 abbrev total_with : SolidModel → List Entry → ℕ
-total_with S es = all_sunward (gathered (cast_in S) es)
+total_with S es = all_sunward (flat_map (cast_in S) es)
 
 total_split : (S : SolidModel) (all before es : List Entry) → all ≡ before ++ es → total_with S all ≡ total_with S before + total_with S es
 total_split S all before es is =
-    ap (total_with S) is ∙ ap all_sunward (gathered-++ (cast_in S) before es) ∙ sunward-++ (gathered (cast_in S) before) (gathered (cast_in S) es)
+    ap (total_with S) is ∙ ap all_sunward (flat_map-append (cast_in S) before es) ∙ sunward-++ (flat_map (cast_in S) before) (flat_map (cast_in S) es)
 
 -- ---- sound lines pass
 module _ (room : Room) (all : List Entry) (s : Sound room all) where
@@ -207,10 +203,7 @@ settled_from_sound room all s last = s.solid (last_face all last)
 -- a test that does not refuse holds, and so do those after it
 unless_none : (b : Bool) (why : Refusal) (rest : Option Refusal) → unless b why rest ≡ None → (b ≡ true) × (rest ≡ None)
 unless_none true why rest e = (refl, e)
-unless_none false why rest e = absurd (some_none why e)
-  where
-    some_none : (why : Refusal) → ◌≡◌ {A = Option Refusal} (Some why) None → ⊥
-    some_none why e = let z : ◌≡◌ {A = ℕ} 0 1 = cc in omega arith
+unless_none false why rest e = cc
 
 -- what a cast that passes has shown
 pub record CastKept (room : Room) (before : List Entry) (dx dy dz : ℤ) : Type 0 where
@@ -262,11 +255,11 @@ module _ (room : Room) (all : List Entry) where
   )
 
   -- a bound P on a count, which each line that passes keeps
-  count_all : {A : Type 0} (f : Entry → List A) (P : ℕ → Type 0) → ((before : List Entry) (e : Entry) → line_refusal room before e ≡ None → P (length (gathered f before)) → P (length (gathered f before) + length (f e))) → (before es : List Entry) → all ≡ before ++ es → AllPass room before es → P (length (gathered f before)) → P (length (gathered f all))
-  count_all f P step before [] is p h = subst P (ap (λ (l : List Entry). length (gathered f l)) (sym (is ∙ append-nil before))) h
+  count_all : {A : Type 0} (f : Entry → List A) (P : ℕ → Type 0) → ((before : List Entry) (e : Entry) → line_refusal room before e ≡ None → P (length (flat_map f before)) → P (length (flat_map f before) + length (f e))) → (before es : List Entry) → all ≡ before ++ es → AllPass room before es → P (length (flat_map f before)) → P (length (flat_map f all))
+  count_all f P step before [] is p h = subst P (ap (λ (l : List Entry). length (flat_map f l)) (sym (is ∙ append-nil before))) h
   count_all f P step before (e ∷ es) is p h =
       count_all f P step (before ++ e ∷ []) es (is ∙ sym (append_assoc before (e ∷ []) es)) p.1
-      (subst P (sym (ap length (gathered-++ f before (e ∷ []) ∙ ap (λ l. gathered f before ++ l) (append-nil (f e))) ∙ length-append (gathered f before) (f e))) (step before e p.0.kept h))
+      (subst P (sym (ap length (flat_map-append f before (e ∷ []) ∙ ap (λ l. flat_map f before ++ l) (append-nil (f e))) ∙ length-append (flat_map f before) (f e))) (step before e p.0.kept h))
 
   -- a corner that passes has its place
   corner_step : (before : List Entry) (e : Entry) → line_refusal room before e ≡ None → length (points_of before) ≤ room.corners → length (points_of before) + length (corner_in e) ≤ room.corners

@@ -20,7 +20,7 @@ use Rattle.text.proofs.Cuts.{glued-pieces}
 use Rattle.text.proofs.Unique.{same_cut, same_word, first_of}
 use Rattle.rules.specs.declared.room.Room.{Room}
 use Rattle.rules.specs.declared.setup.Setup.{Setup}
-use Rattle.rules.specs.Contents.{gathered, set_by, set_after, setup_of}
+use Rattle.rules.specs.Contents.{set_by, set_after, setup_of}
 use Rattle.rules.specs.Tests.{line_refusal}
 use Rattle.rules.specs.Verdict.{last_after, last_of, Matching, Mismatch, site_line, FaceNext, Settled, Passes, AllPass, picture_size}
 use Rattle.rules.specs.Verdict.{Stops, unmatched, unreadable, broken, early, unpictured, Refused, Accepted}
@@ -35,22 +35,9 @@ pub last_push : (o : Option Head) (es : List Entry) (e : Entry) → last_after o
 last_push o [] e = refl
 last_push o (x ∷ es) e = last_push (Some (head_of x)) es e
 
-pub gathered-++ : {A : Type 0} (f : Entry → List A) (es fs : List Entry) → gathered f (es ++ fs) ≡ gathered f es ++ gathered f fs
-gathered-++ f [] fs = refl
-gathered-++ f (e ∷ es) fs = ap (λ l. f e ++ l) (gathered-++ f es fs) ∙ sym (append_assoc (f e) (gathered f es) (gathered f fs))
-
-pub gathered-push : {A : Type 0} (f : Entry → List A) (es : List Entry) (e : Entry) → gathered f (es ++ e ∷ []) ≡ gathered f es ++ f e
-gathered-push f es e = gathered-++ f es (e ∷ []) ∙ ap (λ l. gathered f es ++ l) (append-nil (f e))
-
 pub set-++ : (s : Setup) (es fs : List Entry) → set_after s (es ++ fs) ≡ set_after (set_after s es) fs
 set-++ s [] fs = refl
 set-++ s (e ∷ es) fs = set-++ (set_by s e) es fs
-
-pub set_push : (s : Setup) (es : List Entry) (e : Entry) → set_after s (es ++ e ∷ []) ≡ set_by (set_after s es) e
-set_push s es e = set-++ s es (e ∷ [])
-
-pub length_push : (es : List Entry) (e : Entry) → length (es ++ e ∷ []) ≡ length es + 1
-length_push es e = length-append es (e ∷ [])
 
 -- ---- lines that pass
 pub pass_push : (room : Room) (front es : List Entry) (e : Entry) → AllPass room front es → Passes room (front ++ es) e → AllPass room front (es ++ e ∷ [])
@@ -160,20 +147,13 @@ later room front (e ∷ es) h p is all =
     let past : 1 ≤ rank (head_of e) = ⊎_elim (λ q. omega (arith, q.0)) (λ q. omega (arith, q.1)) on in
     later room (front ++ e ∷ []) es (head_of e) past (last_push None front e) all.1
 
-differ : (h : Head) (o : Option Head) → o ≡ Some h → o ≡ None → ⊥
-differ h o p q = let z : ◌≡◌ {A = ℕ} 0 1 = cc in omega arith
-
-same_head : (h k : Head) (o : Option Head) → o ≡ Some h → o ≡ Some k → h ≡ k
-same_head h k o p q = cc
-
 pub few_lines : (room : Room) (es : List Entry) → AllPass room [] es → (last_of es ≡ None) ⊎ (last_of es ≡ Some head.Plan) → length es < 2
 few_lines room [] all h = omega arith
 few_lines room (e ∷ []) all h = omega arith
 few_lines room (e ∷ f ∷ es) all h =
     let past : 1 ≤ rank (head_of f) = ⊎_elim (λ q. omega (arith, q.0)) (λ q. omega (arith, q.1)) all.1.0.placed in
     let k = later room (e ∷ f ∷ []) es (head_of f) past refl all.1.1 in
-    ⊎_elim (λ none. absurd (differ k.0 _ k.1.0 none))
-    (λ plan. absurd (omega (arith, k.1.1, ap rank (same_head k.0 head.Plan _ k.1.0 plan)))) h
+    ⊎_elim (λ none. cc (k.1.0, none)) (λ plan. let is : k.0 ≡ head.Plan = cc (k.1.0, plan) in absurd (omega (arith, k.1.1, ap rank is))) h
 
 pub many_lines : (room : Room) (es : List Entry) → AllPass room [] es → (last_of es ≡ None → ⊥) → (last_of es ≡ Some head.Plan → ⊥) → 2 ≤ length es
 many_lines room [] all p q = absurd (p refl)

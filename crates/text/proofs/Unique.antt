@@ -5,7 +5,7 @@ use Rattle.std.specs.Fmt.{signed_decimal}
 use Rattle.std.proofs.lemmas.List.{append_cancel_left}
 use Rattle.std.proofs.lemmas.Str.Parse.{digit_at}
 use Rattle.std.proofs.lemmas.Fmt.{decimal_is_IsNumeral}
-use Rattle.std.proofs.lemmas.Bool.{true≢false, cond-false, ne_eqb}
+use Rattle.std.proofs.lemmas.Bool.{cond-false, ne_eqb}
 use Rattle.text.specs.declared.head.Head.{Head}
 use Rattle.text.specs.declared.head.Head.TheVariants as head
 use Rattle.text.specs.declared.head.Statement.TheVariants as entry
@@ -170,9 +170,6 @@ spelt_good (entry.Cast w x y z) f = ((w, refl), (is_number x f.0, (is_number y f
 length-spelt : (e : Entry) → length (spelt e) ≡ length (shape (head_of e))
 length-spelt e = fields_shape signed_decimal kind_word what_word e
 
-ends_both : (b : Bool) → b ≡ false → b ≡ true → ⊥
-ends_both b p q = true≢false (sym q ∙ p)
-
 -- a line has one head and one list of fields
 record SameParts (h k : Head) (fs gs : List (List ℕ)) : Type 0 where
   head : h ≡ k
@@ -183,7 +180,7 @@ same_parts l h k fs gs p q = let both = sym p ∙ q in record { head = same_word
 
 module _ {o : Option Head} {l : List ℕ} {b : Bool} where
   well_headed : (h : Head) (fs : List (List ℕ)) → Headed o l b h fs → Misheaded o l b → ⊥
-  well_headed h fs r (unended p) = ends_both b p r.whole
+  well_headed h fs r (unended p) = cc (p, r.whole)
   well_headed h fs r (unknown p) = p h fs r.parts
   well_headed h fs r (misplaced k gs p never) = never (subst (MayFollow o) (same_parts l h k fs gs r.parts p).head r.placed)
 

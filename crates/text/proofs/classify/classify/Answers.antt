@@ -11,10 +11,8 @@ use Rattle.text.specs.Order.{MayFollow}
 use Rattle.text.specs.Text.{left}
 use Rattle.text.proofs.Shapes.{fields_shape}
 use Rattle.text.proofs.Cuts.{pieces-some}
+use Rattle.text.proofs.Unique.{first_of}
 use Rattle.text.proofs.classify.classify.Goals as goal
-
-first_same : {x y : List ℕ} {xs ys : List (List ℕ)} → x ∷ xs ≡ y ∷ ys → x ≡ y
-first_same e = cc
 
 -- the line's parts, where its head is known
 parted : (l : List ℕ) (h : Head) {w : List ℕ} {all fs : List (List ℕ)} → all ≡ pieces 9 l → all ≡ w ∷ fs → w ≡ word h → Parted l h fs
@@ -41,7 +39,7 @@ returns-in_err-head c =
     let none = rw c.in_err-head.ensures.ok_part at c.head_of.ensures in
     refused _ _ _ _ _ _ c.from_residual-in_err-head.ensures (sym c.in_err-head.ensures.value) c.in_err-head.ensures.ok_part
     (subst (Unreadable _ _ _ _) (sym c.at-misheaded.ensures)
-    (misheaded (unknown (λ h fs p. none h (first_same (sym cut ∙ c.parts-parts.ensures.parts ∙ p))))))
+    (misheaded (unknown (λ h fs p. none h (first_of (sym cut ∙ c.parts-parts.ensures.parts ∙ p))))))
 
 pub returns-in_err-next : goal.returns-in_err-next
 returns-in_err-next c =
