@@ -1,7 +1,7 @@
 -- Lines in order pass one after the other, and their faces are settled, exactly if all of them together are sound: each line's own test
 -- holds with the faces of all lines, there are few enough corners, faces and sunward triangles in all, and the faces match.
 use Rattle.std.proofs.Common.{◌≡◌, ℕ, ◌+◌, ◌*◌, ◌<◌, ◌≤◌, Bool, true, false, ◌&&◌, ltb, leb, ◌⊎◌, List, [], ◌∷◌, ◌++◌, length, ℤ, Some, None, Option, sym, refl, ap, ◌∙◌, subst, inl, inr, ⊎_elim, append_assoc, append-nil, arith, length-append}
-use Rattle.std.specs.List.{flat_map}
+use Rattle.std.specs.List.{flat_map, AllByRecursion}
 use Rattle.std.proofs.lemmas.List.Concat.{flat_map-append}
 use Rattle.std.proofs.lemmas.Bool.{ltb-true, leb-true, lt-ltb, le-leb, and_parts, and_from, cond-true}
 use Rattle.geometry.specs.Vectors.{vector}
@@ -42,8 +42,7 @@ Fine room all (entry.Lay w) = 0 < length (triangles_of all)
 Fine room all (entry.Cast w dx dy dz) = (0 < length (triangles_of all)) × (in_run_limits (vector dx dy dz) ≡ true)
 
 abbrev pub AllFine : Room → List Entry → List Entry → Type 0
-AllFine room all [] = Unit {0}
-AllFine room all (e ∷ es) = Fine room all e × AllFine room all es
+AllFine room all es = AllByRecursion (Fine room all) es
 
 pub record Sound (room : Room) (all : List Entry) : Type 0 where
   pub few : AllFew all
@@ -112,13 +111,13 @@ past_faces o h m is other =
     ⊎_elim (λ p. omega (arith, p.0)) (λ p. absurd (other (rank_face h p.0))) m'
 
 some_face : (e : Entry) → head_of e ≡ head.Face → 0 < length (face_in e)
-some_face (entry.Plan w r k) is = absurd (omega (arith, ap rank is))
-some_face (entry.Ground g) is = absurd (omega (arith, ap rank is))
-some_face (entry.Frame c0 r0 c1 r1) is = absurd (omega (arith, ap rank is))
-some_face (entry.Corner x y z) is = absurd (omega (arith, ap rank is))
+some_face (entry.Plan w r k) is = cc
+some_face (entry.Ground g) is = cc
+some_face (entry.Frame c0 r0 c1 r1) is = cc
+some_face (entry.Corner x y z) is = cc
 some_face (entry.Face a b c) is = omega arith
-some_face (entry.Lay w) is = absurd (omega (arith, ap rank is))
-some_face (entry.Cast w x y z) is = absurd (omega (arith, ap rank is))
+some_face (entry.Lay w) is = cc
+some_face (entry.Cast w x y z) is = cc
 
 -- a face that comes last is among the lines, or was last before them
 last_after_lem : (o : Option Head) (es : List Entry) → last_after o es ≡ Some head.Face → (o ≡ Some head.Face) ⊎ (0 < length (triangles_of es))
@@ -148,6 +147,16 @@ total_with S es = all_sunward (flat_map (cast_in S) es)
 total_split : (S : SolidModel) (all before es : List Entry) → all ≡ before ++ es → total_with S all ≡ total_with S before + total_with S es
 total_split S all before es is =
     ap (total_with S) is ∙ ap all_sunward (flat_map-append (cast_in S) before es) ∙ sunward-++ (flat_map (cast_in S) before) (flat_map (cast_in S) es)
+
+-- one line more goes from the lines that follow to those before
+moved_on : (all before : List Entry) (e : Entry) (es : List Entry) → all ≡ before ++ e ∷ es → all ≡ (before ++ e ∷ []) ++ es
+moved_on all before e es is = is ∙ sym (append_assoc before (e ∷ []) es)
+
+order_on : (before : List Entry) (e : Entry) (es : List Entry) → InOrder (Some (head_of e)) es → InOrder (last_of (before ++ e ∷ [])) es
+order_on before e es o = subst (λ (x : Option Head). InOrder x es) (sym (last_push None before e)) o
+
+count_push : {A : Type 0} (f : Entry → List A) (before : List Entry) (e : Entry) → length (flat_map f (before ++ e ∷ [])) ≡ length (flat_map f before) + length (f e)
+count_push f before e = omega (arith, count_split f (before ++ e ∷ []) before (e ∷ []) refl, ap length (append-nil (f e)))
 
 -- ---- sound lines pass
 module _ (room : Room) (all : List Entry) (s : Sound room all) where
@@ -189,7 +198,7 @@ module _ (room : Room) (all : List Entry) (s : Sound room all) where
   sound_passes before [] is o few fine = tt
   sound_passes before (e ∷ es) is o few fine = (
     record { placed = o.0; few = few.0; settled = settled_of before e es is o.0 o.1; kept = kept_of before e es is o.1 fine.0 },
-    sound_passes (before ++ e ∷ []) es (is ∙ sym (append_assoc before (e ∷ []) es)) (subst (λ (x : Option Head). InOrder x es) (sym (last_push None before e)) o.1) few.1 fine.1,
+    sound_passes (before ++ e ∷ []) es (moved_on all before e es is) (order_on before e es o.1) few.1 fine.1,
   )
 
 -- sound lines in order pass, and their faces are settled
@@ -251,15 +260,19 @@ module _ (room : Room) (all : List Entry) where
   fine-all before [] is o p = tt
   fine-all before (e ∷ es) is o p = (
     fine_of before e es is o.1 p.0.kept,
-    fine-all (before ++ e ∷ []) es (is ∙ sym (append_assoc before (e ∷ []) es)) (subst (λ (x : Option Head). InOrder x es) (sym (last_push None before e)) o.1) p.1,
+    fine-all (before ++ e ∷ []) es (moved_on all before e es is) (order_on before e es o.1) p.1,
   )
 
-  -- a bound P on a count, which each line that passes keeps
-  count_all : {A : Type 0} (f : Entry → List A) (P : ℕ → Type 0) → ((before : List Entry) (e : Entry) → line_refusal room before e ≡ None → P (length (flat_map f before)) → P (length (flat_map f before) + length (f e))) → (before es : List Entry) → all ≡ before ++ es → AllPass room before es → P (length (flat_map f before)) → P (length (flat_map f all))
-  count_all f P step before [] is p h = subst P (ap (λ (l : List Entry). length (flat_map f l)) (sym (is ∙ append-nil before))) h
-  count_all f P step before (e ∷ es) is p h =
-      count_all f P step (before ++ e ∷ []) es (is ∙ sym (append_assoc before (e ∷ []) es)) p.1
-      (subst P (sym (ap length (flat_map-append f before (e ∷ []) ∙ ap (λ l. flat_map f before ++ l) (append-nil (f e))) ∙ length-append (flat_map f before) (f e))) (step before e p.0.kept h))
+  -- what each line that passes keeps holds after all
+  carried : (P : List Entry → Type 0) → ((before : List Entry) (e : Entry) (es : List Entry) → all ≡ before ++ e ∷ es → InOrder (last_of before) (e ∷ es) → Passes room before e → P before → P (before ++ e ∷ [])) → (before es : List Entry) → all ≡ before ++ es → InOrder (last_of before) es → AllPass room before es → P before → P all
+  carried P step before [] is o p h = subst P (sym (is ∙ append-nil before)) h
+  carried P step before (e ∷ es) is o p h =
+      carried P step (before ++ e ∷ []) es (moved_on all before e es is) (order_on before e es o.1) p.1 (step before e es is o p.0 h)
+
+  -- a bound P on a count
+  count_all : {A : Type 0} (f : Entry → List A) (P : ℕ → Type 0) → ((before : List Entry) (e : Entry) → line_refusal room before e ≡ None → P (length (flat_map f before)) → P (length (flat_map f before) + length (f e))) → InOrder None all → AllPass room [] all → P 0 → P (length (flat_map f all))
+  count_all f P step =
+      carried (λ before. P (length (flat_map f before))) (λ before e es is o p h. subst P (sym (count_push f before e)) (step before e p.kept h)) [] all refl
 
   -- a corner that passes has its place
   corner_step : (before : List Entry) (e : Entry) → line_refusal room before e ≡ None → length (points_of before) ≤ room.corners → length (points_of before) + length (corner_in e) ≤ room.corners
@@ -307,12 +320,11 @@ module _ (room : Room) (all : List Entry) where
       let base : total_with (solid_of [] all) before + sunward_total (solid_of [] all) d ≤ 1000000 = subst (λ (X : SolidModel). total_with X before + sunward_total X d ≤ 1000000) (same_solid before all t) small in
       omega arith
 
-  total_all : (before es : List Entry) → all ≡ before ++ es → InOrder (last_of before) es → AllPass room before es → total_with (solid_of [] all) before ≤ 1000000 → total_of all ≤ 1000000
-  total_all before [] is o p h = subst (λ (n : ℕ). n ≤ 1000000) (ap (total_with (solid_of [] all)) (sym (is ∙ append-nil before))) h
-  total_all before (e ∷ es) is o p h =
+  total_all : InOrder None all → AllPass room [] all → total_of all ≤ 1000000
+  total_all o p =
       let S = solid_of [] all in
-      let next : total_with S (before ++ e ∷ []) ≤ 1000000 = omega (arith, total_split S (before ++ e ∷ []) before (e ∷ []) refl, ap all_sunward (append-nil (cast_in S e)), cast_step before e es is o.1 p.0.kept h) in
-      total_all (before ++ e ∷ []) es (is ∙ sym (append_assoc before (e ∷ []) es)) (subst (λ (x : Option Head). InOrder x es) (sym (last_push None before e)) o.1) p.1 next
+      carried (λ before. total_with S before ≤ 1000000)
+      (λ before e es is o p h. omega (arith, total_split S (before ++ e ∷ []) before (e ∷ []) refl, ap all_sunward (append-nil (cast_in S e)), cast_step before e es is o.1 p.kept h)) [] all refl o p (omega arith)
 
   -- the faces before a line are matched already, or the last of them is the last line before it
   abbrev Pending : List Entry → Type 0
@@ -321,7 +333,7 @@ module _ (room : Room) (all : List Entry) where
   -- a line that is no face
   other_step : (before : List Entry) (e : Entry) (es : List Entry) → all ≡ before ++ e ∷ es → InOrder (last_of before) (e ∷ es) → Passes room before e → (head_of e ≡ head.Face → ⊥) → face_in e ≡ [] → Pending before → Pending (before ++ e ∷ [])
   other_step before e es is o p other none pending some =
-      let had : 0 < length (triangles_of before) = omega (arith, some, count_split face_in (before ++ e ∷ []) before (e ∷ []) refl, ap length (append-nil (face_in e) ∙ none)) in
+      let had : 0 < length (triangles_of before) = omega (arith, some, count_push face_in before e, ap length none) in
       ⊎_elim
       (λ (last : last_of before ≡ Some head.Face).
       inr (same_matching before all (same_tables all before e es is (past_faces (last_of before) (head_of e) o.0 last other) o.1) (p.settled last other)))
@@ -329,30 +341,24 @@ module _ (room : Room) (all : List Entry) where
       (pending had)
 
   pending_step : (before : List Entry) (e : Entry) (es : List Entry) → all ≡ before ++ e ∷ es → InOrder (last_of before) (e ∷ es) → Passes room before e → Pending before → Pending (before ++ e ∷ [])
-  pending_step before (entry.Plan w r k) es is o p h = other_step before (entry.Plan w r k) es is o p (λ q. omega (arith, ap rank q)) refl h
-  pending_step before (entry.Ground g) es is o p h = other_step before (entry.Ground g) es is o p (λ q. omega (arith, ap rank q)) refl h
-  pending_step before (entry.Frame c0 r0 c1 r1) es is o p h = other_step before (entry.Frame c0 r0 c1 r1) es is o p (λ q. omega (arith, ap rank q)) refl h
-  pending_step before (entry.Corner x y z) es is o p h = other_step before (entry.Corner x y z) es is o p (λ q. omega (arith, ap rank q)) refl h
+  pending_step before (entry.Plan w r k) es is o p h = other_step before (entry.Plan w r k) es is o p (λ q. cc) refl h
+  pending_step before (entry.Ground g) es is o p h = other_step before (entry.Ground g) es is o p (λ q. cc) refl h
+  pending_step before (entry.Frame c0 r0 c1 r1) es is o p h = other_step before (entry.Frame c0 r0 c1 r1) es is o p (λ q. cc) refl h
+  pending_step before (entry.Corner x y z) es is o p h = other_step before (entry.Corner x y z) es is o p (λ q. cc) refl h
   pending_step before (entry.Face a b c) es is o p h = λ some. inl (last_push None before (entry.Face a b c))
-  pending_step before (entry.Lay w) es is o p h = other_step before (entry.Lay w) es is o p (λ q. omega (arith, ap rank q)) refl h
-  pending_step before (entry.Cast w x y z) es is o p h = other_step before (entry.Cast w x y z) es is o p (λ q. omega (arith, ap rank q)) refl h
-
-  -- after the lines es, which are the rest of all
-  match_all : (before es : List Entry) → all ≡ before ++ es → InOrder (last_of before) es → AllPass room before es → Pending before → Pending all
-  match_all before [] is o p h = subst Pending (sym (is ∙ append-nil before)) h
-  match_all before (e ∷ es) is o p h =
-      match_all (before ++ e ∷ []) es (is ∙ sym (append_assoc before (e ∷ []) es)) (subst (λ (x : Option Head). InOrder x es) (sym (last_push None before e)) o.1) p.1 (pending_step before e es is o p.0 h)
+  pending_step before (entry.Lay w) es is o p h = other_step before (entry.Lay w) es is o p (λ q. cc) refl h
+  pending_step before (entry.Cast w x y z) es is o p h = other_step before (entry.Cast w x y z) es is o p (λ q. cc) refl h
 
 -- lines in order that pass, with their faces settled, are sound
 pub sound_from_passes : (room : Room) (all : List Entry) → InOrder None all → AllPass room [] all → (last_of all ≡ Some head.Face → Matching all) → Sound room all
 sound_from_passes room all o p settled =
-    let faces = count_all room all face_in (Faced room all) (face_step room all) [] all refl p (omega arith, omega arith) in
+    let faces = count_all room all face_in (Faced room all) (face_step room all) o p (omega arith, omega arith) in
     record {
       few = few_from_passes room [] all p;
       fine = fine-all room all [] all refl o p;
-      corners = count_all room all corner_in (λ (n : ℕ). n ≤ room.corners) (corner_step room all) [] all refl p (omega arith);
+      corners = count_all room all corner_in (λ (n : ℕ). n ≤ room.corners) (corner_step room all) o p (omega arith);
       triangles = faces.0;
       partners = faces.1;
-      solid = λ some. ⊎_elim settled (λ m. m) (match_all room all [] all refl o p (λ none. absurd (omega arith)) some);
-      total = total_all room all [] all refl o p (omega arith);
+      solid = λ some. ⊎_elim settled (λ m. m) (carried room all (Pending room all) (pending_step room all) [] all refl o p (λ none. absurd (omega arith)) some);
+      total = total_all room all o p;
     }

@@ -1,14 +1,15 @@
 -- A list that is cut at the first place of a byte.
-use Rattle.std.proofs.Common.{◌≡◌, ℕ, suc, ◌+◌, ◌-◌, ◌<◌, ◌≤◌, Bool, true, false, cond, eqb, leb, ltb, List, [], ◌∷◌, ◌++◌, length, get_or, take, drop, sym, refl, ap, ◌∙◌, subst, ⊎_elim, arith, length-drop, take-append-drop, length-take, get_or-take}
+use Rattle.std.proofs.Common.{◌≡◌, ℕ, ◌+◌, ◌-◌, ◌<◌, ◌≤◌, Bool, true, false, cond, eqb, leb, ltb, List, [], ◌∷◌, ◌++◌, length, get_or, take, drop, sym, refl, ap, ◌∙◌, subst, ⊎_elim, arith, length-drop, take-append-drop, length-take, get_or-take}
 use Rattle.std.specs.Int.{from_bool}
+use Rattle.std.specs.Prelude.{◌≢◌}
+use Rattle.std.proofs.lemmas.List.Elements.{recursion_from_All, All-from_get_or}
 use Rattle.std.proofs.lemmas.List.{take_all, drop_all, drop-drop, drop_more, append-nil}
 use Rattle.std.proofs.lemmas.Bool.{true≢false, eqb-true, eq-eqb, ne_eqb, le-leb, lt-leb, cond-true, cond-false, cond_both, cases_lt, ltb-true, ltb-false}
 use Rattle.text.specs.Pieces.{Without, onto, pieces, glued, AllWithout}
 use Rattle.text.specs.Text.{FirstLine}
 
 pub without_from : (b : ℕ) (l : List ℕ) → ((k : ℕ) → k < length l → get_or l k 0 ≡ b → ⊥) → Without b l
-without_from b [] h = tt
-without_from b (c ∷ cs) h = (h 0 (omega arith), without_from b cs (λ k lt. h (suc k) (omega arith)))
+without_from b l h = recursion_from_All (λ c. c ≢ b) l (All-from_get_or (λ c. c ≢ b) l 0 h)
 
 pub pieces-last : (b : ℕ) (p : List ℕ) → Without b p → pieces b p ≡ p ∷ []
 pieces-last b [] w = refl
