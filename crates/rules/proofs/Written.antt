@@ -1,6 +1,8 @@
 -- The line that is written for an entry is a line, and it says that entry and no other. So lines with few digits are told by their text.
 use Rattle.std.proofs.Common.{◌≡◌, ℕ, suc, ◌<◌, Bool, true, ◌&&◌, leb, List, [], ◌∷◌, ◌++◌, length, ℤ, pos, negsuc, Some, None, decimal, Option, sym, refl, ap, ◌∙◌, subst, inl, arith, length-append}
 use Rattle.std.specs.Fmt.{signed_decimal}
+use Rattle.std.specs.Prelude.{◌≢◌}
+use Rattle.std.specs.List.{AllByRecursion}
 use Rattle.std.proofs.lemmas.Str.Parse.{digit_at}
 use Rattle.std.proofs.lemmas.Bool.{true≢false, and_parts, leb-true}
 use Rattle.text.specs.declared.head.Head.{Head}
@@ -79,14 +81,14 @@ module _ (b : ℕ) (low : b < 32) where
   without-parts (entry.Lay w) f = (without-word head.Lay, (without-what w, tt))
   without-parts (entry.Cast w x y z) f = (without-word head.Cast, (without-what w, (without-signed x f.0, (without-signed y f.1, (without-signed z f.2, tt)))))
 
-without-++ : (b : ℕ) (l m : List ℕ) → Without b l → Without b m → Without b (l ++ m)
-without-++ b [] m p q = q
-without-++ b (c ∷ cs) m p q = (p.0, without-++ b cs m p.1 q)
+pub all-++ : {X : Type 0} (P : X → Type 0) (xs ys : List X) → AllByRecursion P xs → AllByRecursion P ys → AllByRecursion P (xs ++ ys)
+all-++ P [] ys p q = q
+all-++ P (x ∷ xs) ys p q = (p.0, all-++ P xs ys p.1 q)
 
 without-glued : (b s : ℕ) (ps : List (List ℕ)) → (s ≡ b → ⊥) → AllWithout b ps → Without b (glued s ps)
 without-glued b s [] ne w = tt
 without-glued b s (p ∷ []) ne w = w.0
-without-glued b s (p ∷ q ∷ ps) ne w = without-++ b p (s ∷ glued s (q ∷ ps)) w.0 (ne, without-glued b s (q ∷ ps) ne w.1)
+without-glued b s (p ∷ q ∷ ps) ne w = all-++ (λ c. c ≢ b) p (s ∷ glued s (q ∷ ps)) w.0 (ne, without-glued b s (q ∷ ps) ne w.1)
 
 -- the line that is written for an entry is the first of a text that begins with it
 pub line_first : (e : Entry) (to : List ℕ) → Few e → FirstLine (line_of e ++ 10 ∷ to) (line_of e) true to
