@@ -4,11 +4,11 @@ use Rattle.std.proofs.lemmas.Bool.{cases_lt}
 use Rattle.planes.specs.declared.frame.Cutout.{Cutout}
 use Rattle.text.specs.declared.head.Head.{Head}
 use Rattle.text.specs.declared.head.Head.TheVariants as head
-use Rattle.text.specs.declared.entry.Entry.{Entry}
-use Rattle.text.specs.declared.entry.Entry.TheVariants as entry
+use Rattle.text.specs.Heads.{head_of}
+use Rattle.text.specs.Entries.{Entry}
+use Rattle.text.specs.declared.head.Statement.TheVariants as entry
 use Rattle.text.specs.declared.entry.PlaneKind.{PlaneKind}
 use Rattle.text.specs.declared.entry.What.{What}
-use Rattle.text.specs.Entries.{entry_head}
 use Rattle.text.specs.Order.{MayFollow, rank}
 use Rattle.rules.specs.declared.room.Room.{Room}
 use Rattle.rules.specs.Verdict.{last_of, AllPass}
@@ -18,7 +18,7 @@ use Rattle.rules.proofs.Progress.{last_push}
 -- each line may follow the one before it
 abbrev pub InOrder : Option Head → List Entry → Type 0
 InOrder o [] = Unit {0}
-InOrder o (e ∷ es) = MayFollow o (entry_head e) × InOrder (Some (entry_head e)) es
+InOrder o (e ∷ es) = MayFollow o (head_of e) × InOrder (Some (head_of e)) es
 
 -- ---- lines in order are those of a job
 -- what may follow plan and ground
@@ -47,7 +47,7 @@ pub rises : (h k : Head) → MayFollow (Some h) k → (rank h ≤ rank k) × (ra
 rises h k m = ⊎_elim (λ p. (omega (arith, p.0), λ a b. omega (arith, p.0))) (λ p. (omega (arith, p.0), λ a b. omega (arith, p.1))) m
 
 -- one line more in front
-put : (h : Head) (e : Entry) (es : List Entry) → 1 ≤ rank h → MayFollow (Some h) (entry_head e) → Shaped (rank (entry_head e)) es → Shaped (rank h) (e ∷ es)
+put : (h : Head) (e : Entry) (es : List Entry) → 1 ≤ rank h → MayFollow (Some h) (head_of e) → Shaped (rank (head_of e)) es → Shaped (rank h) (e ∷ es)
 put h (entry.Plan w r k) es low m s = absurd (omega (arith, (rises h head.Plan m).0))
 put h (entry.Ground g) es low m s = absurd (⊎_elim (λ p. omega (arith, p.0)) (λ p. omega (arith, p.1)) m)
 put h (entry.Frame c0 r0 c1 r1) es low m s =
@@ -115,8 +115,8 @@ shape_body : (h : Head) (es : List Entry) → 1 ≤ rank h → InOrder (Some h) 
 shape_body h [] low o =
     record { body = record { frame = None; corners = []; faces = []; lays = []; casts = [] }; is = refl; no_frame = λ _. refl; no_corners = λ _. refl; no_faces = λ _. refl; no_lays = λ _. refl }
 shape_body h (e ∷ es) low o =
-    let up = (rises h (entry_head e) o.0).0 in
-    put h e es low o.0 (shape_body (entry_head e) es (omega arith) o.1)
+    let up = (rises h (head_of e) o.0).0 in
+    put h e es low o.0 (shape_body (head_of e) es (omega arith) o.1)
 
 record IsPlan (e : Entry) : Type 0 where
   width : ℤ
@@ -125,7 +125,7 @@ record IsPlan (e : Entry) : Type 0 where
   is : e ≡ entry.Plan width rows kind
 
 -- the first line is a plan, and the second a ground
-is_plan : (e : Entry) → rank (entry_head e) ≡ 0 → IsPlan e
+is_plan : (e : Entry) → rank (head_of e) ≡ 0 → IsPlan e
 is_plan (entry.Plan w r k) p = record { width = w; rows = r; kind = k; is = refl }
 is_plan (entry.Ground g) p = absurd (omega arith)
 is_plan (entry.Frame c0 r0 c1 r1) p = absurd (omega arith)
@@ -134,7 +134,7 @@ is_plan (entry.Face a b c) p = absurd (omega arith)
 is_plan (entry.Lay w) p = absurd (omega arith)
 is_plan (entry.Cast w x y z) p = absurd (omega arith)
 
-is_ground_lem : (e : Entry) → rank (entry_head e) ≡ 1 → (g : ℤ) × (e ≡ entry.Ground g)
+is_ground_lem : (e : Entry) → rank (head_of e) ≡ 1 → (g : ℤ) × (e ≡ entry.Ground g)
 is_ground_lem (entry.Plan w r k) p = absurd (omega arith)
 is_ground_lem (entry.Ground g) p = (g, refl)
 is_ground_lem (entry.Frame c0 r0 c1 r1) p = absurd (omega arith)
@@ -148,11 +148,11 @@ pub shaped : (es : List Entry) → InOrder None es → 2 ≤ length es → (j : 
 shaped [] o two = absurd (omega arith)
 shaped (e ∷ []) o two = absurd (omega arith)
 shaped (e ∷ d ∷ es) o two =
-    let none : rank (entry_head e) ≡ 0 = ap rank o.0 in
-    let one : rank (entry_head d) ≡ 1 = ⊎_elim (λ p. p.1 none) (λ p. absurd (omega (arith, p.0, p.1))) o.1.0 in
+    let none : rank (head_of e) ≡ 0 = ap rank o.0 in
+    let one : rank (head_of d) ≡ 1 = ⊎_elim (λ p. p.1 none) (λ p. absurd (omega (arith, p.0, p.1))) o.1.0 in
     let p = is_plan e none in
     let g = is_ground_lem d one in
-    let s = shape_body (entry_head d) es (omega arith) o.1.1 in (
+    let s = shape_body (head_of d) es (omega arith) o.1.1 in (
       record { width = p.width; rows = p.rows; kind = p.kind; ground = g.0; frame = s.body.frame; corners = s.body.corners; faces = s.body.faces; lays = s.body.lays; casts = s.body.casts },
       (λ i. p.is i ∷ g.1 i ∷ s.is i),
     )
@@ -163,12 +163,12 @@ abbrev After : ℕ → List Entry → Type 0
 After r es = (m : Head) → 1 ≤ rank m → rank m ≤ r → InOrder (Some m) es
 
 -- lines of one sort before such lines
-after_all : {X : Type 0} (f : X → Entry) (k : Head) → ((x : X) → entry_head (f x) ≡ k) → 3 ≤ rank k → (xs : List X) (es : List Entry) → After (rank k) es → After (rank k) (map f xs ++ es)
+after_all : {X : Type 0} (f : X → Entry) (k : Head) → ((x : X) → head_of (f x) ≡ k) → 3 ≤ rank k → (xs : List X) (es : List Entry) → After (rank k) es → After (rank k) (map f xs ++ es)
 after_all f k is high [] es a m low le = a m low le
 after_all f k is high (x ∷ xs) es a m low le =
-    let r : rank (entry_head (f x)) ≡ rank k = ap rank (is x) in (
+    let r : rank (head_of (f x)) ≡ rank k = ap rank (is x) in (
       ⊎_elim (λ lt. inl (omega arith, λ z. absurd (omega arith))) (λ ge. inr (omega arith, omega arith)) (cases_lt (rank m) (rank k)),
-      after_all f k is high xs es a (entry_head (f x)) (omega arith) (omega arith),
+      after_all f k is high xs es a (head_of (f x)) (omega arith) (omega arith),
     )
 
 -- the frame line, if there is one, comes after ground

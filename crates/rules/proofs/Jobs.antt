@@ -2,7 +2,7 @@
 use Rattle.std.proofs.Common.{◌≡◌, ℕ, ◌+◌, ◌<◌, ◌≤◌, List, [], ◌∷◌, ◌++◌, map, length, Some, None, Option, sym, refl, ap, ◌∙◌, subst, ⊎_elim, arith}
 use Rattle.std.proofs.lemmas.Bool.{and_parts, and_from, cases_lt}
 use Rattle.planes.specs.declared.frame.Cutout.{Cutout}
-use Rattle.text.specs.declared.entry.Entry.{Entry}
+use Rattle.text.specs.Entries.{Entry}
 use Rattle.text.specs.declared.entry.What.{What}
 use Rattle.text.specs.Spelling.{written}
 use Rattle.rules.specs.declared.room.Room.{Room}
@@ -12,7 +12,7 @@ use Rattle.rules.specs.Tests.{is_size}
 use Rattle.rules.specs.Verdict.{picture_size, Accepted}
 use Rattle.rules.specs.Job.{Cast, Job, corner_line, face_line, lay_line, cast_line, frame_lines, lines_of, spelling, setup, AllFall, Obeys, Fits}
 use Rattle.rules.specs.Theorems.{JobsAreAccepted}
-use Rattle.rules.proofs.Written.{same_written}
+use Rattle.rules.proofs.Written.{same_written, all-++}
 use Rattle.rules.proofs.OneVerdict.{one_verdict}
 use Rattle.rules.proofs.Grammar.{ordered, shaped, in_order}
 use Rattle.rules.proofs.Passing.{Fine, AllFine, Sound, passes_from_sound, settled_from_sound, sound_from_passes}
@@ -27,10 +27,6 @@ module _ (room : Room) (all : List Entry) where
   fine-rest : (es fs : List Entry) → AllFine room all (es ++ fs) → AllFine room all fs
   fine-rest [] fs p = p
   fine-rest (e ∷ es) fs p = fine-rest es fs p.1
-
-  fine-++ : (es fs : List Entry) → AllFine room all es → AllFine room all fs → AllFine room all (es ++ fs)
-  fine-++ [] fs p q = q
-  fine-++ (e ∷ es) fs p q = (p.0, fine-++ es fs p.1 q)
 
   -- lines that are fine everywhere
   fine-map : {X : Type 0} (line : X → Entry) → ((x : X) → Fine room all (line x)) → (xs : List X) → AllFine room all (map line xs)
@@ -122,10 +118,10 @@ module _ (room : Room) (j : Job) where
           (and_from (is_size j.width) (is_size j.rows) o.columns o.lines, f.pixels),
           (
             o.ground,
-            fine-++ room all (frame_lines j.frame) (corners ++ (faces ++ (lays ++ casts))) (frame_fine room all j.frame)
-                (fine-++ room all corners (faces ++ (lays ++ casts)) (fine-map room all corner_line (λ _. tt) j.corners)
-                (fine-++ room all faces (lays ++ casts) (fine-map room all face_line (λ _. tt) j.faces)
-                (fine-++ room all lays casts laid cast))),
+            all-++ (Fine room all) (frame_lines j.frame) (corners ++ (faces ++ (lays ++ casts))) (frame_fine room all j.frame)
+                (all-++ (Fine room all) corners (faces ++ (lays ++ casts)) (fine-map room all corner_line (λ _. tt) j.corners)
+                (all-++ (Fine room all) faces (lays ++ casts) (fine-map room all face_line (λ _. tt) j.faces)
+                (all-++ (Fine room all) lays casts laid cast))),
           ),
         );
         corners = omega (arith, f.corners, points_count j);

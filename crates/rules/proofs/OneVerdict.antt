@@ -6,11 +6,10 @@ use Rattle.solids.specs.declared.misfit.Misfit.{Misfit}
 use Rattle.solids.proofs.Verdicts.{unmatched_once, unmatched_unpaired, partnered_paired}
 use Rattle.text.specs.declared.head.Head.{Head}
 use Rattle.text.specs.declared.head.Head.TheVariants as head
-use Rattle.text.specs.declared.entry.Entry.{Entry}
 use Rattle.text.specs.declared.fault.Fault.{Fault}
 use Rattle.text.specs.Text.{FirstLine}
-use Rattle.text.specs.Heads.{word}
-use Rattle.text.specs.Entries.{entry_head, spelt}
+use Rattle.text.specs.Heads.{word, head_of}
+use Rattle.text.specs.Entries.{Entry, spelt}
 use Rattle.text.specs.Lines.{Reads, Unreadable}
 use Rattle.text.specs.Spelling.{line_of, written}
 use Rattle.text.specs.Faults.{fault_at}
@@ -37,12 +36,6 @@ matched_mismatched es a m bad =
     (subst (λ (n : ℕ). Paired cs ts n) m.1.numbered.inside.filled.counted.long (partnered_paired cs ts m.0 m.1))
 
 -- ---- one end
-one_some : {m n : Refusal} (o : Option Refusal) → o ≡ Some m → o ≡ Some n → m ≡ n
-one_some o p q = cc
-
-none_some : {n : Refusal} (o : Option Refusal) → o ≡ None → o ≡ Some n → ⊥
-none_some o p q = let z : ◌≡◌ {A = ℕ} 0 1 = cc in omega arith
-
 -- the same line by another name
 moved : {o : Option Head} {l m to un : List ℕ} {b c : Bool} {n : ℕ} {f : Fault} → SameCut l m b c to un → Unreadable o l b n f → Unreadable o m c n f
 moved {o} {l} {m} {to} {un} {b} {c} {n} {f} s u = subst (λ (x : Bool). Unreadable o m x n f) s.end (subst (λ (x : List ℕ). Unreadable o x b n f) s.line u)
@@ -60,7 +53,7 @@ some_left e to none = omega (arith, ap length none, length-append (line_of e) (1
 
 module _ (room : Room) where
   -- a face that passes is next
-  face_of_lem : {before : List Entry} (e : Entry) (to : List ℕ) → Passes room before e → entry_head e ≡ head.Face → FaceNext (line_of e ++ 10 ∷ to)
+  face_of_lem : {before : List Entry} (e : Entry) (to : List ℕ) → Passes room before e → head_of e ≡ head.Face → FaceNext (line_of e ++ 10 ∷ to)
   face_of_lem {before} e to p is =
       record {
         line = line_of e;
@@ -81,7 +74,7 @@ module _ (room : Room) where
   goes_on before e to f p (broken l un d why ready cut r bad) =
       let s = same_cut _ l (line_of e) un to true true cut (line_first e to p.few) in
       let same : d ≡ e = same_entry _ (line_of e) true d e (moved_reads s r) (line_reads (last_of before) e p.placed p.few) in
-      none_some _ p.kept (ap (line_refusal room before) (sym same) ∙ bad)
+      cc (p.kept, ap (line_refusal room before) (sym same) ∙ bad)
   goes_on before e to f p (early ready none few) = some_left e to none
   goes_on before e to f p (unpictured ready none enough small) = some_left e to none
 
@@ -109,7 +102,8 @@ module _ (room : Room) where
   same_stop before rest f g (broken l to d k ready cut r bad) (broken m un e n steady slice q worse) =
       let s = same_cut rest l m to un true true cut slice in
       let same : d ≡ e = same_entry _ m true d e (moved_reads s r) q in
-      ap (λ (w : Refusal). fault_at w (length before + 1) 0) (one_some _ (sym (ap (line_refusal room before) same) ∙ bad) worse)
+      let why : k ≡ n = cc (sym (ap (line_refusal room before) same) ∙ bad, worse) in
+      ap (λ (w : Refusal). fault_at w (length before + 1) 0) why
   same_stop before rest f g (broken l to d k ready cut r bad) (early steady null less) = absurd (none_left null cut)
   same_stop before rest f g (broken l to d k ready cut r bad) (unpictured steady null more small) = absurd (none_left null cut)
   same_stop before rest f g (early ready none few) (unmatched b duty worse) = absurd (matched_mismatched before b (ready duty) worse)
@@ -184,17 +178,11 @@ module _ (room : Room) where
   whole_accepted : (text : List ℕ) (es : List Entry) → Accepted room text es → text ≡ written es ++ []
   whole_accepted text es a = a.whole ∙ sym (append-nil (written es))
 
-some_fault : {f g : Fault} → ◌≡◌ {A = Option Fault} (Some f) (Some g) → f ≡ g
-some_fault e = cc
-
-no_fault : {f : Fault} → ◌≡◌ {A = Option Fault} None (Some f) → ⊥
-no_fault e = let z : ◌≡◌ {A = ℕ} 0 1 = cc in omega arith
-
 -- ---- the theorem
 pub one_verdict : OneVerdict
 one_verdict =
     record {
-      one_fault = λ room text f g p q. some_fault (all_one room [] p.before q.before p.rest q.rest (Some f) (Some g) (sym p.whole ∙ q.whole) p.pass q.pass (stop f p.stops) (stop g q.stops)).end;
+      one_fault = λ room text f g p q. cc (all_one room [] p.before q.before p.rest q.rest (Some f) (Some g) (sym p.whole ∙ q.whole) p.pass q.pass (stop f p.stops) (stop g q.stops)).end;
       one_reading = λ room text es fs p q. (all_one room [] es fs [] [] None None (sym (whole_accepted room text es p) ∙ whole_accepted room text fs q) p.pass q.pass (of_accepted room text es p) (of_accepted room text fs q)).lines;
-      not_both = λ room text es f p q. no_fault (all_one room [] es q.before [] q.rest None (Some f) (sym (whole_accepted room text es p) ∙ q.whole) p.pass q.pass (of_accepted room text es p) (stop f q.stops)).end;
+      not_both = λ room text es f p q. cc (all_one room [] es q.before [] q.rest None (Some f) (sym (whole_accepted room text es p) ∙ q.whole) p.pass q.pass (of_accepted room text es p) (stop f q.stops)).end;
     }

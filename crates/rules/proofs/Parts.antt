@@ -1,30 +1,27 @@
 -- The parts of a job, recovered from its lines.
 use Rattle.std.proofs.Common.{◌≡◌, List, [], ◌∷◌, ◌++◌, map, length, ℤ, Some, None, Option, sym, refl, ap, ◌∙◌, append-nil}
-use Rattle.std.proofs.lemmas.List.{length-map}
+use Rattle.std.specs.List.{flat_map}
+use Rattle.std.proofs.lemmas.List.{length-map, map-id}
+use Rattle.std.proofs.lemmas.List.Concat.{flat_map-append, flat_map_single}
+use Rattle.std.proofs.lemmas.List.Folds.{flat_map-map}
 use Rattle.planes.specs.declared.frame.Cutout.{Cutout}
-use Rattle.text.specs.declared.entry.Entry.{Entry}
-use Rattle.text.specs.declared.entry.Entry.TheVariants as entry
+use Rattle.text.specs.Entries.{Entry}
+use Rattle.text.specs.declared.head.Statement.TheVariants as entry
 use Rattle.text.specs.declared.entry.PlaneKind.{PlaneKind}
 use Rattle.text.specs.declared.entry.What.{What}
 use Rattle.rules.specs.declared.setup.Setup.{Setup}
-use Rattle.rules.specs.Contents.{gathered, point, triangle, corner_in, face_in, points_of, triangles_of, set_by, set_after, setup_of}
+use Rattle.rules.specs.Contents.{point, triangle, corner_in, face_in, points_of, triangles_of, set_by, set_after, setup_of}
 use Rattle.rules.specs.Job.{Corner, Face, Cast, Job, corner_line, face_line, lay_line, cast_line, frame_lines, lines_of, setup}
-use Rattle.rules.proofs.Progress.{gathered-++, set-++}
+use Rattle.rules.proofs.Progress.{set-++}
 
 -- ---- what the lines of a job add up to
 -- lines of which each adds nothing
-gathered_none : {A X : Type 0} (f : Entry → List A) (line : X → Entry) → ((x : X) → f (line x) ≡ []) → (xs : List X) → gathered f (map line xs) ≡ []
-gathered_none f line none [] = refl
-gathered_none f line none (x ∷ xs) = ap (λ l. l ++ gathered f (map line xs)) (none x) ∙ gathered_none f line none xs
-
--- lines of which each adds one thing
-gathered-each : {A X : Type 0} (f : Entry → List A) (line : X → Entry) (g : X → A) → ((x : X) → f (line x) ≡ g x ∷ []) → (xs : List X) → gathered f (map line xs) ≡ map g xs
-gathered-each f line g one [] = refl
-gathered-each f line g one (x ∷ xs) =
-    ap (λ l. l ++ gathered f (map line xs)) (one x) ∙ ap (λ l. g x ∷ l) (gathered-each f line g one xs)
+flat_map_none : {A X : Type 0} (f : Entry → List A) (line : X → Entry) → ((x : X) → f (line x) ≡ []) → (xs : List X) → flat_map f (map line xs) ≡ []
+flat_map_none f line none [] = refl
+flat_map_none f line none (x ∷ xs) = ap (λ l. l ++ flat_map f (map line xs)) (none x) ∙ flat_map_none f line none xs
 
 -- nothing from the frame line, be there one or not
-frame_none : {A : Type 0} (f : Entry → List A) → ((c0 r0 c1 r1 : ℤ) → f (entry.Frame c0 r0 c1 r1) ≡ []) → (o : Option Cutout) → gathered f (frame_lines o) ≡ []
+frame_none : {A : Type 0} (f : Entry → List A) → ((c0 r0 c1 r1 : ℤ) → f (entry.Frame c0 r0 c1 r1) ≡ []) → (o : Option Cutout) → flat_map f (frame_lines o) ≡ []
 frame_none f none None = refl
 frame_none f none (Some w) = append-nil _ ∙ none w.c0 w.r0 w.c1 w.r1
 
@@ -35,32 +32,32 @@ record Setless {A : Type 0} (f : Entry → List A) : Type 0 where
   frame : (c0 r0 c1 r1 : ℤ) → f (entry.Frame c0 r0 c1 r1) ≡ []
 
 -- what f takes from a job's lines is what it takes from the corners, the faces, the lays and the casts
-gathered-job : {A : Type 0} (f : Entry → List A) (j : Job) (a b c d : List A) → Setless f → gathered f (map corner_line j.corners) ≡ a → gathered f (map face_line j.faces) ≡ b → gathered f (map lay_line j.lays) ≡ c → gathered f (map cast_line j.casts) ≡ d → gathered f (lines_of j) ≡ a ++ (b ++ (c ++ d))
-gathered-job f j a b c d s p q r t =
+flat_map-job : {A : Type 0} (f : Entry → List A) (j : Job) (a b c d : List A) → Setless f → flat_map f (map corner_line j.corners) ≡ a → flat_map f (map face_line j.faces) ≡ b → flat_map f (map lay_line j.lays) ≡ c → flat_map f (map cast_line j.casts) ≡ d → flat_map f (lines_of j) ≡ a ++ (b ++ (c ++ d))
+flat_map-job f j a b c d s p q r t =
     let corners = map corner_line j.corners in
     let faces = map face_line j.faces in
     let lays = map lay_line j.lays in
     let casts = map cast_line j.casts in
-    let e3 : gathered f (lays ++ casts) ≡ c ++ d = gathered-++ f lays casts ∙ (λ i. r i ++ t i) in
-    let e2 : gathered f (faces ++ (lays ++ casts)) ≡ b ++ (c ++ d) = gathered-++ f faces (lays ++ casts) ∙ (λ i. q i ++ e3 i) in
-    let e1 : gathered f (corners ++ (faces ++ (lays ++ casts))) ≡ a ++ (b ++ (c ++ d)) = gathered-++ f corners (faces ++ (lays ++ casts)) ∙ (λ i. p i ++ e2 i) in
-    let e0 : gathered f (frame_lines j.frame ++ (corners ++ (faces ++ (lays ++ casts)))) ≡ [] ++ (a ++ (b ++ (c ++ d))) =
-    gathered-++ f (frame_lines j.frame) (corners ++ (faces ++ (lays ++ casts))) ∙ (λ i. frame_none f s.frame j.frame i ++ e1 i) in
+    let e3 : flat_map f (lays ++ casts) ≡ c ++ d = flat_map-append f lays casts ∙ (λ i. r i ++ t i) in
+    let e2 : flat_map f (faces ++ (lays ++ casts)) ≡ b ++ (c ++ d) = flat_map-append f faces (lays ++ casts) ∙ (λ i. q i ++ e3 i) in
+    let e1 : flat_map f (corners ++ (faces ++ (lays ++ casts))) ≡ a ++ (b ++ (c ++ d)) = flat_map-append f corners (faces ++ (lays ++ casts)) ∙ (λ i. p i ++ e2 i) in
+    let e0 : flat_map f (frame_lines j.frame ++ (corners ++ (faces ++ (lays ++ casts)))) ≡ [] ++ (a ++ (b ++ (c ++ d))) =
+    flat_map-append f (frame_lines j.frame) (corners ++ (faces ++ (lays ++ casts))) ∙ (λ i. frame_none f s.frame j.frame i ++ e1 i) in
     λ i. s.plan j.width j.rows j.kind i ++ (s.ground j.ground i ++ e0 i)
 
 -- the corners and the triangles of a job's lines are those of its parts
 pub points_of_lem : (j : Job) → points_of (lines_of j) ≡ map (λ (p : Corner). point p.x p.y p.z) j.corners
 points_of_lem j =
-    gathered-job corner_in j _ [] [] [] (record { plan = λ _ _ _. refl; ground = λ _. refl; frame = λ _ _ _ _. refl })
-    (gathered-each corner_in corner_line (λ (p : Corner). point p.x p.y p.z) (λ _. refl) j.corners) (gathered_none corner_in face_line (λ _. refl) j.faces)
-    (gathered_none corner_in lay_line (λ _. refl) j.lays) (gathered_none corner_in cast_line (λ _. refl) j.casts)
+    flat_map-job corner_in j _ [] [] [] (record { plan = λ _ _ _. refl; ground = λ _. refl; frame = λ _ _ _ _. refl })
+    (flat_map-map corner_in corner_line j.corners ∙ flat_map_single (λ (p : Corner). point p.x p.y p.z) j.corners) (flat_map_none corner_in face_line (λ _. refl) j.faces)
+    (flat_map_none corner_in lay_line (λ _. refl) j.lays) (flat_map_none corner_in cast_line (λ _. refl) j.casts)
     ∙ append-nil _
 
 pub triangles_of_lem : (j : Job) → triangles_of (lines_of j) ≡ map (λ (t : Face). triangle t.a t.b t.c) j.faces
 triangles_of_lem j =
-    gathered-job face_in j [] _ [] [] (record { plan = λ _ _ _. refl; ground = λ _. refl; frame = λ _ _ _ _. refl })
-    (gathered_none face_in corner_line (λ _. refl) j.corners) (gathered-each face_in face_line (λ (t : Face). triangle t.a t.b t.c) (λ _. refl) j.faces)
-    (gathered_none face_in lay_line (λ _. refl) j.lays) (gathered_none face_in cast_line (λ _. refl) j.casts)
+    flat_map-job face_in j [] _ [] [] (record { plan = λ _ _ _. refl; ground = λ _. refl; frame = λ _ _ _ _. refl })
+    (flat_map_none face_in corner_line (λ _. refl) j.corners) (flat_map-map face_in face_line j.faces ∙ flat_map_single (λ (t : Face). triangle t.a t.b t.c) j.faces)
+    (flat_map_none face_in lay_line (λ _. refl) j.lays) (flat_map_none face_in cast_line (λ _. refl) j.casts)
     ∙ append-nil _
 
 -- as many as there are
@@ -140,38 +137,34 @@ cast_back (entry.Face a b c) = []
 cast_back (entry.Lay w) = []
 cast_back (entry.Cast w dx dy dz) = record { what = w; dx = dx; dy = dy; dz = dz } ∷ []
 
-map_same : {X : Type 0} (xs : List X) → map (λ (x : X). x) xs ≡ xs
-map_same [] = refl
-map_same (x ∷ xs) = ap (λ l. x ∷ l) (map_same xs)
-
 -- together the lines add each part of the job
-corners_back : (j : Job) → gathered corner_back (lines_of j) ≡ j.corners
+corners_back : (j : Job) → flat_map corner_back (lines_of j) ≡ j.corners
 corners_back j =
-    gathered-job corner_back j _ [] [] [] (record { plan = λ _ _ _. refl; ground = λ _. refl; frame = λ _ _ _ _. refl })
-    (gathered-each corner_back corner_line (λ (p : Corner). p) (λ _. refl) j.corners) (gathered_none corner_back face_line (λ _. refl) j.faces)
-    (gathered_none corner_back lay_line (λ _. refl) j.lays) (gathered_none corner_back cast_line (λ _. refl) j.casts)
-    ∙ append-nil _ ∙ map_same j.corners
+    flat_map-job corner_back j _ [] [] [] (record { plan = λ _ _ _. refl; ground = λ _. refl; frame = λ _ _ _ _. refl })
+    (flat_map-map corner_back corner_line j.corners ∙ flat_map_single (λ (p : Corner). p) j.corners) (flat_map_none corner_back face_line (λ _. refl) j.faces)
+    (flat_map_none corner_back lay_line (λ _. refl) j.lays) (flat_map_none corner_back cast_line (λ _. refl) j.casts)
+    ∙ append-nil _ ∙ map-id j.corners
 
-faces_back : (j : Job) → gathered face_back (lines_of j) ≡ j.faces
+faces_back : (j : Job) → flat_map face_back (lines_of j) ≡ j.faces
 faces_back j =
-    gathered-job face_back j [] _ [] [] (record { plan = λ _ _ _. refl; ground = λ _. refl; frame = λ _ _ _ _. refl })
-    (gathered_none face_back corner_line (λ _. refl) j.corners) (gathered-each face_back face_line (λ (t : Face). t) (λ _. refl) j.faces)
-    (gathered_none face_back lay_line (λ _. refl) j.lays) (gathered_none face_back cast_line (λ _. refl) j.casts)
-    ∙ append-nil _ ∙ map_same j.faces
+    flat_map-job face_back j [] _ [] [] (record { plan = λ _ _ _. refl; ground = λ _. refl; frame = λ _ _ _ _. refl })
+    (flat_map_none face_back corner_line (λ _. refl) j.corners) (flat_map-map face_back face_line j.faces ∙ flat_map_single (λ (t : Face). t) j.faces)
+    (flat_map_none face_back lay_line (λ _. refl) j.lays) (flat_map_none face_back cast_line (λ _. refl) j.casts)
+    ∙ append-nil _ ∙ map-id j.faces
 
-lays_back : (j : Job) → gathered lay_back (lines_of j) ≡ j.lays
+lays_back : (j : Job) → flat_map lay_back (lines_of j) ≡ j.lays
 lays_back j =
-    gathered-job lay_back j [] [] _ [] (record { plan = λ _ _ _. refl; ground = λ _. refl; frame = λ _ _ _ _. refl })
-    (gathered_none lay_back corner_line (λ _. refl) j.corners) (gathered_none lay_back face_line (λ _. refl) j.faces)
-    (gathered-each lay_back lay_line (λ (w : What). w) (λ _. refl) j.lays) (gathered_none lay_back cast_line (λ _. refl) j.casts)
-    ∙ append-nil _ ∙ map_same j.lays
+    flat_map-job lay_back j [] [] _ [] (record { plan = λ _ _ _. refl; ground = λ _. refl; frame = λ _ _ _ _. refl })
+    (flat_map_none lay_back corner_line (λ _. refl) j.corners) (flat_map_none lay_back face_line (λ _. refl) j.faces)
+    (flat_map-map lay_back lay_line j.lays ∙ flat_map_single (λ (w : What). w) j.lays) (flat_map_none lay_back cast_line (λ _. refl) j.casts)
+    ∙ append-nil _ ∙ map-id j.lays
 
-casts_back : (j : Job) → gathered cast_back (lines_of j) ≡ j.casts
+casts_back : (j : Job) → flat_map cast_back (lines_of j) ≡ j.casts
 casts_back j =
-    gathered-job cast_back j [] [] [] _ (record { plan = λ _ _ _. refl; ground = λ _. refl; frame = λ _ _ _ _. refl })
-    (gathered_none cast_back corner_line (λ _. refl) j.corners) (gathered_none cast_back face_line (λ _. refl) j.faces)
-    (gathered_none cast_back lay_line (λ _. refl) j.lays) (gathered-each cast_back cast_line (λ (s : Cast). s) (λ _. refl) j.casts)
-    ∙ map_same j.casts
+    flat_map-job cast_back j [] [] [] _ (record { plan = λ _ _ _. refl; ground = λ _. refl; frame = λ _ _ _ _. refl })
+    (flat_map_none cast_back corner_line (λ _. refl) j.corners) (flat_map_none cast_back face_line (λ _. refl) j.faces)
+    (flat_map_none cast_back lay_line (λ _. refl) j.lays) (flat_map-map cast_back cast_line j.casts ∙ flat_map_single (λ (s : Cast). s) j.casts)
+    ∙ map-id j.casts
 
 -- the job that has these lines, if there is one
 abbrev job_of : List Entry → Job
@@ -182,10 +175,10 @@ job_of es =
       kind = (setup_of es).kind;
       ground = (setup_of es).ground_height;
       frame = (setup_of es).cutout;
-      corners = gathered corner_back es;
-      faces = gathered face_back es;
-      lays = gathered lay_back es;
-      casts = gathered cast_back es;
+      corners = flat_map corner_back es;
+      faces = flat_map face_back es;
+      lays = flat_map lay_back es;
+      casts = flat_map cast_back es;
     }
 
 job_back : (j : Job) → job_of (lines_of j) ≡ j

@@ -1,6 +1,8 @@
 -- Lines in order pass one after the other, and their faces are settled, exactly if all of them together are sound: each line's own test
 -- holds with the faces of all lines, there are few enough corners, faces and sunward triangles in all, and the faces match.
 use Rattle.std.proofs.Common.{◌≡◌, ℕ, ◌+◌, ◌*◌, ◌<◌, ◌≤◌, Bool, true, false, ◌&&◌, ltb, leb, ◌⊎◌, List, [], ◌∷◌, ◌++◌, length, ℤ, Some, None, Option, sym, refl, ap, ◌∙◌, subst, inl, inr, ⊎_elim, append_assoc, append-nil, arith, length-append}
+use Rattle.std.specs.List.{flat_map, AllByRecursion}
+use Rattle.std.proofs.lemmas.List.Concat.{flat_map-append}
 use Rattle.std.proofs.lemmas.Bool.{ltb-true, leb-true, lt-ltb, le-leb, and_parts, and_from, cond-true}
 use Rattle.geometry.specs.Vectors.{vector}
 use Rattle.geometry.specs.Limits.{in_run_limits}
@@ -15,17 +17,17 @@ use Rattle.survey.specs.Refusals.{unless, is_ground, has_triangles, stays_small}
 use Rattle.survey.specs.Account.{Shadow, all_sunward}
 use Rattle.text.specs.declared.head.Head.{Head}
 use Rattle.text.specs.declared.head.Head.TheVariants as head
-use Rattle.text.specs.declared.entry.Entry.{Entry}
-use Rattle.text.specs.declared.entry.Entry.TheVariants as entry
+use Rattle.text.specs.Heads.{head_of}
+use Rattle.text.specs.Entries.{Entry}
+use Rattle.text.specs.declared.head.Statement.TheVariants as entry
 use Rattle.text.specs.declared.entry.What.{What}
-use Rattle.text.specs.Entries.{entry_head}
 use Rattle.text.specs.Order.{MayFollow, rank}
 use Rattle.rules.specs.declared.room.Room.{Room}
-use Rattle.rules.specs.Contents.{gathered, corner_in, face_in, cast_in, points_of, triangles_of, solid_of, total_of}
+use Rattle.rules.specs.Contents.{corner_in, face_in, cast_in, points_of, triangles_of, solid_of, total_of}
 use Rattle.rules.specs.Tests.{is_size, size_of, holds_pixels, holds_face, line_refusal}
 use Rattle.rules.specs.Verdict.{last_after, last_of, Matching, Passes, AllPass}
 use Rattle.rules.specs.Job.{AllFew}
-use Rattle.rules.proofs.Progress.{gathered-++, last_push}
+use Rattle.rules.proofs.Progress.{last_push}
 use Rattle.rules.proofs.Grammar.{InOrder, rises}
 
 -- ---- sound lines
@@ -40,8 +42,7 @@ Fine room all (entry.Lay w) = 0 < length (triangles_of all)
 Fine room all (entry.Cast w dx dy dz) = (0 < length (triangles_of all)) × (in_run_limits (vector dx dy dz) ≡ true)
 
 abbrev pub AllFine : Room → List Entry → List Entry → Type 0
-AllFine room all [] = Unit {0}
-AllFine room all (e ∷ es) = Fine room all e × AllFine room all es
+AllFine room all es = AllByRecursion (Fine room all) es
 
 pub record Sound (room : Room) (all : List Entry) : Type 0 where
   pub few : AllFew all
@@ -70,15 +71,15 @@ pub record SameTables (es fs : List Entry) : Type 0 where
   pub triangles : triangles_of es ≡ triangles_of fs
 
 -- lines of which f takes nothing can be left out at the end
-gathered_none : {A : Type 0} (f : Entry → List A) (all before es : List Entry) → all ≡ before ++ es → gathered f es ≡ [] → gathered f before ≡ gathered f all
-gathered_none f all before es is none =
-    sym (ap (gathered f) is ∙ gathered-++ f before es ∙ ap (λ l. gathered f before ++ l) none ∙ append-nil (gathered f before))
+flat_map_none : {A : Type 0} (f : Entry → List A) (all before es : List Entry) → all ≡ before ++ es → flat_map f es ≡ [] → flat_map f before ≡ flat_map f all
+flat_map_none f all before es is none =
+    sym (ap (flat_map f) is ∙ flat_map-append f before es ∙ ap (λ l. flat_map f before ++ l) none ∙ append-nil (flat_map f before))
 
 -- the lines before a lay or a cast have all the corners and faces
-pub same_tables : (all before : List Entry) (e : Entry) (es : List Entry) → all ≡ before ++ e ∷ es → 5 ≤ rank (entry_head e) → InOrder (Some (entry_head e)) es → SameTables before all
+pub same_tables : (all before : List Entry) (e : Entry) (es : List Entry) → all ≡ before ++ e ∷ es → 5 ≤ rank (head_of e) → InOrder (Some (head_of e)) es → SameTables before all
 same_tables all before e es is high o =
-    let none = late_none (entry_head e) (e ∷ es) high (inr (refl, omega arith), o) in
-    record { points = gathered_none corner_in all before (e ∷ es) is none.0; triangles = gathered_none face_in all before (e ∷ es) is none.1 }
+    let none = late_none (head_of e) (e ∷ es) high (inr (refl, omega arith), o) in
+    record { points = flat_map_none corner_in all before (e ∷ es) is none.0; triangles = flat_map_none face_in all before (e ∷ es) is none.1 }
 
 pub same_matching : (es fs : List Entry) → SameTables es fs → Matching es → Matching fs
 same_matching es fs s m = (
@@ -109,37 +110,31 @@ past_faces o h m is other =
     let m' : MayFollow (Some head.Face) h = subst (λ (x : Option Head). MayFollow x h) is m in
     ⊎_elim (λ p. omega (arith, p.0)) (λ p. absurd (other (rank_face h p.0))) m'
 
-some_face : (e : Entry) → entry_head e ≡ head.Face → 0 < length (face_in e)
-some_face (entry.Plan w r k) is = absurd (omega (arith, ap rank is))
-some_face (entry.Ground g) is = absurd (omega (arith, ap rank is))
-some_face (entry.Frame c0 r0 c1 r1) is = absurd (omega (arith, ap rank is))
-some_face (entry.Corner x y z) is = absurd (omega (arith, ap rank is))
+some_face : (e : Entry) → head_of e ≡ head.Face → 0 < length (face_in e)
+some_face (entry.Plan w r k) is = cc
+some_face (entry.Ground g) is = cc
+some_face (entry.Frame c0 r0 c1 r1) is = cc
+some_face (entry.Corner x y z) is = cc
 some_face (entry.Face a b c) is = omega arith
-some_face (entry.Lay w) is = absurd (omega (arith, ap rank is))
-some_face (entry.Cast w x y z) is = absurd (omega (arith, ap rank is))
-
-the_head : (h k : Head) → ◌≡◌ {A = Option Head} (Some h) (Some k) → h ≡ k
-the_head h k e = cc
-
-no_head : (h : Head) → ◌≡◌ {A = Option Head} None (Some h) → ⊥
-no_head h e = let z : ◌≡◌ {A = ℕ} 0 1 = cc in omega arith
+some_face (entry.Lay w) is = cc
+some_face (entry.Cast w x y z) is = cc
 
 -- a face that comes last is among the lines, or was last before them
 last_after_lem : (o : Option Head) (es : List Entry) → last_after o es ≡ Some head.Face → (o ≡ Some head.Face) ⊎ (0 < length (triangles_of es))
 last_after_lem o [] is = inl is
 last_after_lem o (e ∷ es) is =
     let long = length-append (face_in e) (triangles_of es) in
-    ⊎_elim (λ p. let q = some_face e (the_head _ _ p) in inr (omega arith)) (λ p. inr (omega arith)) (last_after_lem (Some (entry_head e)) es is)
+    ⊎_elim (λ p. let q = some_face e cc in inr (omega arith)) (λ p. inr (omega arith)) (last_after_lem (Some (head_of e)) es is)
 
 -- where a face comes last, there are faces
 pub last_face : (es : List Entry) → last_of es ≡ Some head.Face → 0 < length (triangles_of es)
-last_face es is = ⊎_elim (λ p. absurd (no_head _ p)) (λ p. p) (last_after_lem None es is)
+last_face es is = ⊎_elim (λ p. cc) (λ p. p) (last_after_lem None es is)
 
 -- ---- counts and totals
--- what is gathered of all lines is as much as of the first and of the rest
-count_split : {A : Type 0} (f : Entry → List A) (all before es : List Entry) → all ≡ before ++ es → length (gathered f all) ≡ length (gathered f before) + length (gathered f es)
+-- what is flat_map of all lines is as much as of the first and of the rest
+count_split : {A : Type 0} (f : Entry → List A) (all before es : List Entry) → all ≡ before ++ es → length (flat_map f all) ≡ length (flat_map f before) + length (flat_map f es)
 count_split f all before es is =
-    ap (λ (l : List Entry). length (gathered f l)) is ∙ ap length (gathered-++ f before es) ∙ length-append (gathered f before) (gathered f es)
+    ap (λ (l : List Entry). length (flat_map f l)) is ∙ ap length (flat_map-append f before es) ∙ length-append (flat_map f before) (flat_map f es)
 
 sunward-++ : (xs ys : List Shadow) → all_sunward (xs ++ ys) ≡ all_sunward xs + all_sunward ys
 sunward-++ [] ys = omega arith
@@ -147,16 +142,26 @@ sunward-++ (x ∷ xs) ys = let h = sunward-++ xs ys in omega arith
 
 -- the sunward triangles of the casts, each with the solid S
 abbrev total_with : SolidModel → List Entry → ℕ
-total_with S es = all_sunward (gathered (cast_in S) es)
+total_with S es = all_sunward (flat_map (cast_in S) es)
 
 total_split : (S : SolidModel) (all before es : List Entry) → all ≡ before ++ es → total_with S all ≡ total_with S before + total_with S es
 total_split S all before es is =
-    ap (total_with S) is ∙ ap all_sunward (gathered-++ (cast_in S) before es) ∙ sunward-++ (gathered (cast_in S) before) (gathered (cast_in S) es)
+    ap (total_with S) is ∙ ap all_sunward (flat_map-append (cast_in S) before es) ∙ sunward-++ (flat_map (cast_in S) before) (flat_map (cast_in S) es)
+
+-- one line more goes from the lines that follow to those before
+moved_on : (all before : List Entry) (e : Entry) (es : List Entry) → all ≡ before ++ e ∷ es → all ≡ (before ++ e ∷ []) ++ es
+moved_on all before e es is = is ∙ sym (append_assoc before (e ∷ []) es)
+
+order_on : (before : List Entry) (e : Entry) (es : List Entry) → InOrder (Some (head_of e)) es → InOrder (last_of (before ++ e ∷ [])) es
+order_on before e es o = subst (λ (x : Option Head). InOrder x es) (sym (last_push None before e)) o
+
+count_push : {A : Type 0} (f : Entry → List A) (before : List Entry) (e : Entry) → length (flat_map f (before ++ e ∷ [])) ≡ length (flat_map f before) + length (f e)
+count_push f before e = omega (arith, count_split f (before ++ e ∷ []) before (e ∷ []) refl, ap length (append-nil (f e)))
 
 -- ---- sound lines pass
 module _ (room : Room) (all : List Entry) (s : Sound room all) where
   -- a fine line passes its test
-  kept_of : (before : List Entry) (e : Entry) (es : List Entry) → all ≡ before ++ e ∷ es → InOrder (Some (entry_head e)) es → Fine room all e → line_refusal room before e ≡ None
+  kept_of : (before : List Entry) (e : Entry) (es : List Entry) → all ≡ before ++ e ∷ es → InOrder (Some (head_of e)) es → Fine room all e → line_refusal room before e ≡ None
   kept_of before (entry.Plan w r k) es is o f = cond-true _ _ _ f.0 ∙ cond-true _ _ _ f.1
   kept_of before (entry.Ground g) es is o f = cond-true _ _ _ f
   kept_of before (entry.Frame c0 r0 c1 r1) es is o f = refl
@@ -183,9 +188,9 @@ module _ (room : Room) (all : List Entry) (s : Sound room all) where
       ∙ cond-true _ _ _ f.1 ∙ cond-true _ _ _ (le-leb (total_of before + sunward_total (solid_of [] before) d) 1000000 small)
 
   -- the faces before a line that is none are matched
-  settled_of : (before : List Entry) (e : Entry) (es : List Entry) → all ≡ before ++ e ∷ es → MayFollow (last_of before) (entry_head e) → InOrder (Some (entry_head e)) es → last_of before ≡ Some head.Face → (entry_head e ≡ head.Face → ⊥) → Matching before
+  settled_of : (before : List Entry) (e : Entry) (es : List Entry) → all ≡ before ++ e ∷ es → MayFollow (last_of before) (head_of e) → InOrder (Some (head_of e)) es → last_of before ≡ Some head.Face → (head_of e ≡ head.Face → ⊥) → Matching before
   settled_of before e es is m o last other =
-      let t = same_tables all before e es is (past_faces (last_of before) (entry_head e) m last other) o in
+      let t = same_tables all before e es is (past_faces (last_of before) (head_of e) m last other) o in
       same_matching all before (back_tables before all t) (s.solid (omega (arith, last_face before last, ap length t.triangles)))
 
   -- the lines es, which are the rest of all
@@ -193,7 +198,7 @@ module _ (room : Room) (all : List Entry) (s : Sound room all) where
   sound_passes before [] is o few fine = tt
   sound_passes before (e ∷ es) is o few fine = (
     record { placed = o.0; few = few.0; settled = settled_of before e es is o.0 o.1; kept = kept_of before e es is o.1 fine.0 },
-    sound_passes (before ++ e ∷ []) es (is ∙ sym (append_assoc before (e ∷ []) es)) (subst (λ (x : Option Head). InOrder x es) (sym (last_push None before e)) o.1) few.1 fine.1,
+    sound_passes (before ++ e ∷ []) es (moved_on all before e es is) (order_on before e es o.1) few.1 fine.1,
   )
 
 -- sound lines in order pass, and their faces are settled
@@ -207,10 +212,7 @@ settled_from_sound room all s last = s.solid (last_face all last)
 -- a test that does not refuse holds, and so do those after it
 unless_none : (b : Bool) (why : Refusal) (rest : Option Refusal) → unless b why rest ≡ None → (b ≡ true) × (rest ≡ None)
 unless_none true why rest e = (refl, e)
-unless_none false why rest e = absurd (some_none why e)
-  where
-    some_none : (why : Refusal) → ◌≡◌ {A = Option Refusal} (Some why) None → ⊥
-    some_none why e = let z : ◌≡◌ {A = ℕ} 0 1 = cc in omega arith
+unless_none false why rest e = cc
 
 -- what a cast that passes has shown
 pub record CastKept (room : Room) (before : List Entry) (dx dy dz : ℤ) : Type 0 where
@@ -238,7 +240,7 @@ few_from_passes room before (e ∷ es) p = (p.0.few, few_from_passes room (befor
 
 module _ (room : Room) (all : List Entry) where
   -- a line that passes its test is fine
-  fine_of : (before : List Entry) (e : Entry) (es : List Entry) → all ≡ before ++ e ∷ es → InOrder (Some (entry_head e)) es → line_refusal room before e ≡ None → Fine room all e
+  fine_of : (before : List Entry) (e : Entry) (es : List Entry) → all ≡ before ++ e ∷ es → InOrder (Some (head_of e)) es → line_refusal room before e ≡ None → Fine room all e
   fine_of before (entry.Plan w r k) es is o kept =
       let a = unless_none _ _ _ kept in
       (a.0, (unless_none _ _ _ a.1).0)
@@ -258,15 +260,19 @@ module _ (room : Room) (all : List Entry) where
   fine-all before [] is o p = tt
   fine-all before (e ∷ es) is o p = (
     fine_of before e es is o.1 p.0.kept,
-    fine-all (before ++ e ∷ []) es (is ∙ sym (append_assoc before (e ∷ []) es)) (subst (λ (x : Option Head). InOrder x es) (sym (last_push None before e)) o.1) p.1,
+    fine-all (before ++ e ∷ []) es (moved_on all before e es is) (order_on before e es o.1) p.1,
   )
 
-  -- a bound P on a count, which each line that passes keeps
-  count_all : {A : Type 0} (f : Entry → List A) (P : ℕ → Type 0) → ((before : List Entry) (e : Entry) → line_refusal room before e ≡ None → P (length (gathered f before)) → P (length (gathered f before) + length (f e))) → (before es : List Entry) → all ≡ before ++ es → AllPass room before es → P (length (gathered f before)) → P (length (gathered f all))
-  count_all f P step before [] is p h = subst P (ap (λ (l : List Entry). length (gathered f l)) (sym (is ∙ append-nil before))) h
-  count_all f P step before (e ∷ es) is p h =
-      count_all f P step (before ++ e ∷ []) es (is ∙ sym (append_assoc before (e ∷ []) es)) p.1
-      (subst P (sym (ap length (gathered-++ f before (e ∷ []) ∙ ap (λ l. gathered f before ++ l) (append-nil (f e))) ∙ length-append (gathered f before) (f e))) (step before e p.0.kept h))
+  -- what each line that passes keeps holds after all
+  carried : (P : List Entry → Type 0) → ((before : List Entry) (e : Entry) (es : List Entry) → all ≡ before ++ e ∷ es → InOrder (last_of before) (e ∷ es) → Passes room before e → P before → P (before ++ e ∷ [])) → (before es : List Entry) → all ≡ before ++ es → InOrder (last_of before) es → AllPass room before es → P before → P all
+  carried P step before [] is o p h = subst P (sym (is ∙ append-nil before)) h
+  carried P step before (e ∷ es) is o p h =
+      carried P step (before ++ e ∷ []) es (moved_on all before e es is) (order_on before e es o.1) p.1 (step before e es is o p.0 h)
+
+  -- a bound P on a count
+  count_all : {A : Type 0} (f : Entry → List A) (P : ℕ → Type 0) → ((before : List Entry) (e : Entry) → line_refusal room before e ≡ None → P (length (flat_map f before)) → P (length (flat_map f before) + length (f e))) → InOrder None all → AllPass room [] all → P 0 → P (length (flat_map f all))
+  count_all f P step =
+      carried (λ before. P (length (flat_map f before))) (λ before e es is o p h. subst P (sym (count_push f before e)) (step before e p.kept h)) [] all refl
 
   -- a corner that passes has its place
   corner_step : (before : List Entry) (e : Entry) → line_refusal room before e ≡ None → length (points_of before) ≤ room.corners → length (points_of before) + length (corner_in e) ≤ room.corners
@@ -300,7 +306,7 @@ module _ (room : Room) (all : List Entry) where
   face_step before (entry.Cast w x y z) kept h = no_more _ h
 
   -- a cast that passes keeps the total small
-  cast_step : (before : List Entry) (e : Entry) (es : List Entry) → all ≡ before ++ e ∷ es → InOrder (Some (entry_head e)) es → line_refusal room before e ≡ None → total_with (solid_of [] all) before ≤ 1000000 → total_with (solid_of [] all) before + all_sunward (cast_in (solid_of [] all) e) ≤ 1000000
+  cast_step : (before : List Entry) (e : Entry) (es : List Entry) → all ≡ before ++ e ∷ es → InOrder (Some (head_of e)) es → line_refusal room before e ≡ None → total_with (solid_of [] all) before ≤ 1000000 → total_with (solid_of [] all) before + all_sunward (cast_in (solid_of [] all) e) ≤ 1000000
   cast_step before (entry.Plan w r k) es is o kept h = omega arith
   cast_step before (entry.Ground g) es is o kept h = omega arith
   cast_step before (entry.Frame c0 r0 c1 r1) es is o kept h = omega arith
@@ -314,52 +320,45 @@ module _ (room : Room) (all : List Entry) where
       let base : total_with (solid_of [] all) before + sunward_total (solid_of [] all) d ≤ 1000000 = subst (λ (X : SolidModel). total_with X before + sunward_total X d ≤ 1000000) (same_solid before all t) small in
       omega arith
 
-  total_all : (before es : List Entry) → all ≡ before ++ es → InOrder (last_of before) es → AllPass room before es → total_with (solid_of [] all) before ≤ 1000000 → total_of all ≤ 1000000
-  total_all before [] is o p h = subst (λ (n : ℕ). n ≤ 1000000) (ap (total_with (solid_of [] all)) (sym (is ∙ append-nil before))) h
-  total_all before (e ∷ es) is o p h =
+  total_all : InOrder None all → AllPass room [] all → total_of all ≤ 1000000
+  total_all o p =
       let S = solid_of [] all in
-      let next : total_with S (before ++ e ∷ []) ≤ 1000000 = omega (arith, total_split S (before ++ e ∷ []) before (e ∷ []) refl, ap all_sunward (append-nil (cast_in S e)), cast_step before e es is o.1 p.0.kept h) in
-      total_all (before ++ e ∷ []) es (is ∙ sym (append_assoc before (e ∷ []) es)) (subst (λ (x : Option Head). InOrder x es) (sym (last_push None before e)) o.1) p.1 next
+      carried (λ before. total_with S before ≤ 1000000)
+      (λ before e es is o p h. omega (arith, total_split S (before ++ e ∷ []) before (e ∷ []) refl, ap all_sunward (append-nil (cast_in S e)), cast_step before e es is o.1 p.kept h)) [] all refl o p (omega arith)
 
   -- the faces before a line are matched already, or the last of them is the last line before it
   abbrev Pending : List Entry → Type 0
   Pending before = 0 < length (triangles_of before) → (last_of before ≡ Some head.Face) ⊎ Matching all
 
   -- a line that is no face
-  other_step : (before : List Entry) (e : Entry) (es : List Entry) → all ≡ before ++ e ∷ es → InOrder (last_of before) (e ∷ es) → Passes room before e → (entry_head e ≡ head.Face → ⊥) → face_in e ≡ [] → Pending before → Pending (before ++ e ∷ [])
+  other_step : (before : List Entry) (e : Entry) (es : List Entry) → all ≡ before ++ e ∷ es → InOrder (last_of before) (e ∷ es) → Passes room before e → (head_of e ≡ head.Face → ⊥) → face_in e ≡ [] → Pending before → Pending (before ++ e ∷ [])
   other_step before e es is o p other none pending some =
-      let had : 0 < length (triangles_of before) = omega (arith, some, count_split face_in (before ++ e ∷ []) before (e ∷ []) refl, ap length (append-nil (face_in e) ∙ none)) in
+      let had : 0 < length (triangles_of before) = omega (arith, some, count_push face_in before e, ap length none) in
       ⊎_elim
       (λ (last : last_of before ≡ Some head.Face).
-      inr (same_matching before all (same_tables all before e es is (past_faces (last_of before) (entry_head e) o.0 last other) o.1) (p.settled last other)))
+      inr (same_matching before all (same_tables all before e es is (past_faces (last_of before) (head_of e) o.0 last other) o.1) (p.settled last other)))
       (λ (m : Matching all). inr m)
       (pending had)
 
   pending_step : (before : List Entry) (e : Entry) (es : List Entry) → all ≡ before ++ e ∷ es → InOrder (last_of before) (e ∷ es) → Passes room before e → Pending before → Pending (before ++ e ∷ [])
-  pending_step before (entry.Plan w r k) es is o p h = other_step before (entry.Plan w r k) es is o p (λ q. omega (arith, ap rank q)) refl h
-  pending_step before (entry.Ground g) es is o p h = other_step before (entry.Ground g) es is o p (λ q. omega (arith, ap rank q)) refl h
-  pending_step before (entry.Frame c0 r0 c1 r1) es is o p h = other_step before (entry.Frame c0 r0 c1 r1) es is o p (λ q. omega (arith, ap rank q)) refl h
-  pending_step before (entry.Corner x y z) es is o p h = other_step before (entry.Corner x y z) es is o p (λ q. omega (arith, ap rank q)) refl h
+  pending_step before (entry.Plan w r k) es is o p h = other_step before (entry.Plan w r k) es is o p (λ q. cc) refl h
+  pending_step before (entry.Ground g) es is o p h = other_step before (entry.Ground g) es is o p (λ q. cc) refl h
+  pending_step before (entry.Frame c0 r0 c1 r1) es is o p h = other_step before (entry.Frame c0 r0 c1 r1) es is o p (λ q. cc) refl h
+  pending_step before (entry.Corner x y z) es is o p h = other_step before (entry.Corner x y z) es is o p (λ q. cc) refl h
   pending_step before (entry.Face a b c) es is o p h = λ some. inl (last_push None before (entry.Face a b c))
-  pending_step before (entry.Lay w) es is o p h = other_step before (entry.Lay w) es is o p (λ q. omega (arith, ap rank q)) refl h
-  pending_step before (entry.Cast w x y z) es is o p h = other_step before (entry.Cast w x y z) es is o p (λ q. omega (arith, ap rank q)) refl h
-
-  -- after the lines es, which are the rest of all
-  match_all : (before es : List Entry) → all ≡ before ++ es → InOrder (last_of before) es → AllPass room before es → Pending before → Pending all
-  match_all before [] is o p h = subst Pending (sym (is ∙ append-nil before)) h
-  match_all before (e ∷ es) is o p h =
-      match_all (before ++ e ∷ []) es (is ∙ sym (append_assoc before (e ∷ []) es)) (subst (λ (x : Option Head). InOrder x es) (sym (last_push None before e)) o.1) p.1 (pending_step before e es is o p.0 h)
+  pending_step before (entry.Lay w) es is o p h = other_step before (entry.Lay w) es is o p (λ q. cc) refl h
+  pending_step before (entry.Cast w x y z) es is o p h = other_step before (entry.Cast w x y z) es is o p (λ q. cc) refl h
 
 -- lines in order that pass, with their faces settled, are sound
 pub sound_from_passes : (room : Room) (all : List Entry) → InOrder None all → AllPass room [] all → (last_of all ≡ Some head.Face → Matching all) → Sound room all
 sound_from_passes room all o p settled =
-    let faces = count_all room all face_in (Faced room all) (face_step room all) [] all refl p (omega arith, omega arith) in
+    let faces = count_all room all face_in (Faced room all) (face_step room all) o p (omega arith, omega arith) in
     record {
       few = few_from_passes room [] all p;
       fine = fine-all room all [] all refl o p;
-      corners = count_all room all corner_in (λ (n : ℕ). n ≤ room.corners) (corner_step room all) [] all refl p (omega arith);
+      corners = count_all room all corner_in (λ (n : ℕ). n ≤ room.corners) (corner_step room all) o p (omega arith);
       triangles = faces.0;
       partners = faces.1;
-      solid = λ some. ⊎_elim settled (λ m. m) (match_all room all [] all refl o p (λ none. absurd (omega arith)) some);
-      total = total_all room all [] all refl o p (omega arith);
+      solid = λ some. ⊎_elim settled (λ m. m) (carried room all (Pending room all) (pending_step room all) [] all refl o p (λ none. absurd (omega arith)) some);
+      total = total_all room all o p;
     }

@@ -7,12 +7,11 @@ use Rattle.geometry.specs.declared.refusal.Refusal.TheVariants as refusal
 use Rattle.solids.specs.declared.misfit.Misfit.{Misfit}
 use Rattle.text.specs.declared.head.Head.{Head}
 use Rattle.text.specs.declared.head.Head.TheVariants as head
-use Rattle.text.specs.declared.entry.Entry.{Entry}
+use Rattle.text.specs.Entries.{Entry}
 use Rattle.text.specs.declared.fault.Fault.{Fault}
 use Rattle.text.specs.Pieces.{glued, pieces}
 use Rattle.text.specs.Text.{FirstLine, ended}
-use Rattle.text.specs.Heads.{word}
-use Rattle.text.specs.Entries.{entry_head}
+use Rattle.text.specs.Heads.{word, head_of}
 use Rattle.text.specs.Order.{MayFollow, rank}
 use Rattle.text.specs.Lines.{Parted, Reads, Unreadable}
 use Rattle.text.specs.Spelling.{line_of, written}
@@ -21,7 +20,7 @@ use Rattle.text.proofs.Cuts.{glued-pieces}
 use Rattle.text.proofs.Unique.{same_cut, same_word, first_of}
 use Rattle.rules.specs.declared.room.Room.{Room}
 use Rattle.rules.specs.declared.setup.Setup.{Setup}
-use Rattle.rules.specs.Contents.{gathered, set_by, set_after, setup_of}
+use Rattle.rules.specs.Contents.{set_by, set_after, setup_of}
 use Rattle.rules.specs.Tests.{line_refusal}
 use Rattle.rules.specs.Verdict.{last_after, last_of, Matching, Mismatch, site_line, FaceNext, Settled, Passes, AllPass, picture_size}
 use Rattle.rules.specs.Verdict.{Stops, unmatched, unreadable, broken, early, unpictured, Refused, Accepted}
@@ -32,26 +31,13 @@ written-++ [] fs = refl
 written-++ (e ∷ es) fs =
     ap (λ (l : List ℕ). line_of e ++ 10 ∷ l) (written-++ es fs) ∙ sym (append_assoc (line_of e) (10 ∷ written es) (written fs))
 
-pub last_push : (o : Option Head) (es : List Entry) (e : Entry) → last_after o (es ++ e ∷ []) ≡ Some (entry_head e)
+pub last_push : (o : Option Head) (es : List Entry) (e : Entry) → last_after o (es ++ e ∷ []) ≡ Some (head_of e)
 last_push o [] e = refl
-last_push o (x ∷ es) e = last_push (Some (entry_head x)) es e
-
-pub gathered-++ : {A : Type 0} (f : Entry → List A) (es fs : List Entry) → gathered f (es ++ fs) ≡ gathered f es ++ gathered f fs
-gathered-++ f [] fs = refl
-gathered-++ f (e ∷ es) fs = ap (λ l. f e ++ l) (gathered-++ f es fs) ∙ sym (append_assoc (f e) (gathered f es) (gathered f fs))
-
-pub gathered-push : {A : Type 0} (f : Entry → List A) (es : List Entry) (e : Entry) → gathered f (es ++ e ∷ []) ≡ gathered f es ++ f e
-gathered-push f es e = gathered-++ f es (e ∷ []) ∙ ap (λ l. gathered f es ++ l) (append-nil (f e))
+last_push o (x ∷ es) e = last_push (Some (head_of x)) es e
 
 pub set-++ : (s : Setup) (es fs : List Entry) → set_after s (es ++ fs) ≡ set_after (set_after s es) fs
 set-++ s [] fs = refl
 set-++ s (e ∷ es) fs = set-++ (set_by s e) es fs
-
-pub set_push : (s : Setup) (es : List Entry) (e : Entry) → set_after s (es ++ e ∷ []) ≡ set_by (set_after s es) e
-set_push s es e = set-++ s es (e ∷ [])
-
-pub length_push : (es : List Entry) (e : Entry) → length (es ++ e ∷ []) ≡ length es + 1
-length_push es e = length-append es (e ∷ [])
 
 -- ---- lines that pass
 pub pass_push : (room : Room) (front es : List Entry) (e : Entry) → AllPass room front es → Passes room (front ++ es) e → AllPass room front (es ++ e ∷ [])
@@ -62,13 +48,13 @@ pass_push room front (x ∷ es) e all p =
 -- a line that says e is the one that is written for it
 pub line_is : (o : Option Head) (l : List ℕ) (end : Bool) (e : Entry) → Reads o l end e → l ≡ line_of e
 line_is o l end e r =
-    sym (glued-pieces 9 l) ∙ ap (glued 9) r.headed.parts ∙ ap (λ (fs : List (List ℕ)). glued 9 (word (entry_head e) ∷ fs)) r.says.text
+    sym (glued-pieces 9 l) ∙ ap (glued 9) r.headed.parts ∙ ap (λ (fs : List (List ℕ)). glued 9 (word (head_of e) ∷ fs)) r.says.text
 
 -- a line that says e is next, so e is a face if a face is next
-pub same_head_next : {o : Option Head} {from l to : List ℕ} {end : Bool} {e : Entry} → FirstLine from l end to → Reads o l end e → FaceNext from → entry_head e ≡ head.Face
+pub same_head_next : {o : Option Head} {from l to : List ℕ} {end : Bool} {e : Entry} → FirstLine from l end to → Reads o l end e → FaceNext from → head_of e ≡ head.Face
 same_head_next {o} {from} {l} {to} {end} {e} cut r next =
     let s = same_cut from l next.line to next.to end next.end cut next.cut in
-    same_word (entry_head e) head.Face (first_of (sym r.headed.parts ∙ ap (pieces 9) s.line ∙ next.parts))
+    same_word (head_of e) head.Face (first_of (sym r.headed.parts ∙ ap (pieces 9) s.line ∙ next.parts))
 
 -- ---- the end of a text
 pub no_line : (l to : List ℕ) (end : Bool) → FirstLine [] l end to → ⊥
@@ -157,24 +143,17 @@ module _ {room : Room} {text : List ℕ} {before : List Entry} {from : List ℕ}
 later : (room : Room) (front es : List Entry) (h : Head) → 1 ≤ rank h → last_of front ≡ Some h → AllPass room front es → (k : Head) × ((last_after (Some h) es ≡ Some k) × (1 ≤ rank k))
 later room front [] h p is all = (h, (refl, p))
 later room front (e ∷ es) h p is all =
-    let on : MayFollow (Some h) (entry_head e) = subst (λ (o : Option Head). MayFollow o (entry_head e)) is all.0.placed in
-    let past : 1 ≤ rank (entry_head e) = ⊎_elim (λ q. omega (arith, q.0)) (λ q. omega (arith, q.1)) on in
-    later room (front ++ e ∷ []) es (entry_head e) past (last_push None front e) all.1
-
-differ : (h : Head) (o : Option Head) → o ≡ Some h → o ≡ None → ⊥
-differ h o p q = let z : ◌≡◌ {A = ℕ} 0 1 = cc in omega arith
-
-same_head : (h k : Head) (o : Option Head) → o ≡ Some h → o ≡ Some k → h ≡ k
-same_head h k o p q = cc
+    let on : MayFollow (Some h) (head_of e) = subst (λ (o : Option Head). MayFollow o (head_of e)) is all.0.placed in
+    let past : 1 ≤ rank (head_of e) = ⊎_elim (λ q. omega (arith, q.0)) (λ q. omega (arith, q.1)) on in
+    later room (front ++ e ∷ []) es (head_of e) past (last_push None front e) all.1
 
 pub few_lines : (room : Room) (es : List Entry) → AllPass room [] es → (last_of es ≡ None) ⊎ (last_of es ≡ Some head.Plan) → length es < 2
 few_lines room [] all h = omega arith
 few_lines room (e ∷ []) all h = omega arith
 few_lines room (e ∷ f ∷ es) all h =
-    let past : 1 ≤ rank (entry_head f) = ⊎_elim (λ q. omega (arith, q.0)) (λ q. omega (arith, q.1)) all.1.0.placed in
-    let k = later room (e ∷ f ∷ []) es (entry_head f) past refl all.1.1 in
-    ⊎_elim (λ none. absurd (differ k.0 _ k.1.0 none))
-    (λ plan. absurd (omega (arith, k.1.1, ap rank (same_head k.0 head.Plan _ k.1.0 plan)))) h
+    let past : 1 ≤ rank (head_of f) = ⊎_elim (λ q. omega (arith, q.0)) (λ q. omega (arith, q.1)) all.1.0.placed in
+    let k = later room (e ∷ f ∷ []) es (head_of f) past refl all.1.1 in
+    ⊎_elim (λ none. cc (k.1.0, none)) (λ plan. let is : k.0 ≡ head.Plan = cc (k.1.0, plan) in absurd (omega (arith, k.1.1, ap rank is))) h
 
 pub many_lines : (room : Room) (es : List Entry) → AllPass room [] es → (last_of es ≡ None → ⊥) → (last_of es ≡ Some head.Plan → ⊥) → 2 ≤ length es
 many_lines room [] all p q = absurd (p refl)

@@ -1,21 +1,22 @@
 -- The line that is written for an entry is a line, and it says that entry and no other. So lines with few digits are told by their text.
 use Rattle.std.proofs.Common.{◌≡◌, ℕ, suc, ◌<◌, Bool, true, ◌&&◌, leb, List, [], ◌∷◌, ◌++◌, length, ℤ, pos, negsuc, Some, None, decimal, Option, sym, refl, ap, ◌∙◌, subst, inl, arith, length-append}
 use Rattle.std.specs.Fmt.{signed_decimal}
+use Rattle.std.specs.Prelude.{◌≢◌}
+use Rattle.std.specs.List.{AllByRecursion}
 use Rattle.std.proofs.lemmas.Str.Parse.{digit_at}
 use Rattle.std.proofs.lemmas.Bool.{true≢false, and_parts, leb-true}
 use Rattle.text.specs.declared.head.Head.{Head}
 use Rattle.text.specs.declared.head.Head.TheVariants as head
-use Rattle.text.specs.declared.entry.Entry.{Entry}
-use Rattle.text.specs.declared.entry.Entry.TheVariants as entry
+use Rattle.text.specs.declared.head.Statement.TheVariants as entry
 use Rattle.text.specs.declared.entry.PlaneKind.{PlaneKind}
 use Rattle.text.specs.declared.entry.PlaneKind.TheVariants.{Line, Pack}
 use Rattle.text.specs.declared.entry.What.{What}
 use Rattle.text.specs.declared.entry.What.TheVariants.{Solids}
 use Rattle.text.specs.Pieces.{Without, AllWithout, pieces, glued}
 use Rattle.text.specs.Text.{FirstLine}
-use Rattle.text.specs.Heads.{word}
+use Rattle.text.specs.Heads.{word, head_of}
 use Rattle.text.specs.Number.{Numeral, SixDigits}
-use Rattle.text.specs.Entries.{entry_head, spelt, Few, kind_word, what_word}
+use Rattle.text.specs.Entries.{Entry, spelt, Few, kind_word, what_word}
 use Rattle.text.specs.Order.{MayFollow}
 use Rattle.text.specs.Lines.{Parted, Reads}
 use Rattle.text.specs.Spelling.{line_of, written}
@@ -71,7 +72,7 @@ module _ (b : ℕ) (low : b < 32) where
   without-signed (pos n) few = without-decimal n few
   without-signed (negsuc n) few = (λ e. omega arith, without-decimal (suc n) (omega arith))
 
-  without-parts : (e : Entry) → Few e → AllWithout b (word (entry_head e) ∷ spelt e)
+  without-parts : (e : Entry) → Few e → AllWithout b (word (head_of e) ∷ spelt e)
   without-parts (entry.Plan w r k) f = (without-word head.Plan, (without-signed w f.0, (without-signed r f.1, (without-kind k, tt))))
   without-parts (entry.Ground g) f = (without-word head.Ground, (without-signed g f, tt))
   without-parts (entry.Frame c0 r0 c1 r1) f = (without-word head.Frame, (without-signed c0 f.0, (without-signed r0 f.1, (without-signed c1 f.2, (without-signed r1 f.3, tt)))))
@@ -80,30 +81,30 @@ module _ (b : ℕ) (low : b < 32) where
   without-parts (entry.Lay w) f = (without-word head.Lay, (without-what w, tt))
   without-parts (entry.Cast w x y z) f = (without-word head.Cast, (without-what w, (without-signed x f.0, (without-signed y f.1, (without-signed z f.2, tt)))))
 
-without-++ : (b : ℕ) (l m : List ℕ) → Without b l → Without b m → Without b (l ++ m)
-without-++ b [] m p q = q
-without-++ b (c ∷ cs) m p q = (p.0, without-++ b cs m p.1 q)
+pub all-++ : {X : Type 0} (P : X → Type 0) (xs ys : List X) → AllByRecursion P xs → AllByRecursion P ys → AllByRecursion P (xs ++ ys)
+all-++ P [] ys p q = q
+all-++ P (x ∷ xs) ys p q = (p.0, all-++ P xs ys p.1 q)
 
 without-glued : (b s : ℕ) (ps : List (List ℕ)) → (s ≡ b → ⊥) → AllWithout b ps → Without b (glued s ps)
 without-glued b s [] ne w = tt
 without-glued b s (p ∷ []) ne w = w.0
-without-glued b s (p ∷ q ∷ ps) ne w = without-++ b p (s ∷ glued s (q ∷ ps)) w.0 (ne, without-glued b s (q ∷ ps) ne w.1)
+without-glued b s (p ∷ q ∷ ps) ne w = all-++ (λ c. c ≢ b) p (s ∷ glued s (q ∷ ps)) w.0 (ne, without-glued b s (q ∷ ps) ne w.1)
 
 -- the line that is written for an entry is the first of a text that begins with it
 pub line_first : (e : Entry) (to : List ℕ) → Few e → FirstLine (line_of e ++ 10 ∷ to) (line_of e) true to
 line_first e to few =
     record {
-      plain = without-glued 10 9 (word (entry_head e) ∷ spelt e) (λ p. omega arith) (without-parts 10 (omega arith) e few);
+      plain = without-glued 10 9 (word (head_of e) ∷ spelt e) (λ p. omega arith) (without-parts 10 (omega arith) e few);
       whole = refl;
       last = λ p. absurd (true≢false p);
     }
 
 -- its parts are the head and the fields of the entry
-pub line_parts : (e : Entry) → Few e → Parted (line_of e) (entry_head e) (spelt e)
-line_parts e few = pieces-glued 9 (word (entry_head e) ∷ spelt e) (omega arith) (without-parts 9 (omega arith) e few)
+pub line_parts : (e : Entry) → Few e → Parted (line_of e) (head_of e) (spelt e)
+line_parts e few = pieces-glued 9 (word (head_of e) ∷ spelt e) (omega arith) (without-parts 9 (omega arith) e few)
 
 -- it says the entry
-pub line_reads : (o : Option Head) (e : Entry) → MayFollow o (entry_head e) → Few e → Reads o (line_of e) true e
+pub line_reads : (o : Option Head) (e : Entry) → MayFollow o (head_of e) → Few e → Reads o (line_of e) true e
 line_reads o e placed few =
     record {
       fields = spelt e;
@@ -128,8 +129,8 @@ placed_somewhere head.Cast = (Some head.Ground, inl (omega arith, λ z. absurd (
 
 same_line : (x y : Entry) → Few x → Few y → line_of x ≡ line_of y → x ≡ y
 same_line x y few less e =
-    let heads : entry_head x ≡ entry_head y = same_word _ _ (first_of (sym (line_parts x few) ∙ ap (pieces 9) e ∙ line_parts y less)) in
-    let o = placed_somewhere (entry_head y) in
+    let heads : head_of x ≡ head_of y = same_word _ _ (first_of (sym (line_parts x few) ∙ ap (pieces 9) e ∙ line_parts y less)) in
+    let o = placed_somewhere (head_of y) in
     let r : Reads o.0 (line_of x) true x = line_reads o.0 x (subst (MayFollow o.0) (sym heads) o.1) few in
     same_entry o.0 (line_of y) true x y (subst (λ (l : List ℕ). Reads o.0 l true x) e r) (line_reads o.0 y o.1 less)
 

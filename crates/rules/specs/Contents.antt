@@ -1,20 +1,16 @@
 -- What some lines of a job say together: the set-up of the plane, the tables of the solid, the lays and the casts.
-use Rattle.std.specs.Prelude.{ℕ, List, [], ◌∷◌, ◌++◌, ℤ, pos, negsuc, Some, None}
+use Rattle.std.specs.Prelude.{ℕ, List, [], ◌∷◌, ℤ, pos, negsuc, Some, None}
+use Rattle.std.specs.List.{flat_map}
 use Rattle.geometry.specs.Vectors.{vector}
 use Rattle.geometry.specs.declared.units.Point.{Point}
 use Rattle.solids.specs.Solids.{SolidModel}
 use Rattle.solids.specs.Tables.{tabled}
 use Rattle.solids.specs.declared.solid.Triangle.{Triangle}
 use Rattle.survey.specs.Account.{Shadow, Account, account, all_sunward}
-use Rattle.text.specs.declared.entry.Entry.{Entry}
-use Rattle.text.specs.declared.entry.Entry.TheVariants as entry
+use Rattle.text.specs.Entries.{Entry}
+use Rattle.text.specs.declared.head.Statement.TheVariants as entry
 use Rattle.text.specs.declared.entry.PlaneKind.TheVariants.{Line}
 use Rattle.rules.specs.declared.setup.Setup.{Setup}
-
--- what each line adds, in the order of the lines
-abbrev pub gathered : {A : Type 0} → (Entry → List A) → List Entry → List A
-gathered f [] = []
-gathered f (e ∷ es) = f e ++ gathered f es
 
 -- ---- the tables of the solid
 abbrev pub point : ℤ → ℤ → ℤ → Point
@@ -47,10 +43,10 @@ face_in (entry.Lay w) = []
 face_in (entry.Cast w dx dy dz) = []
 
 abbrev pub points_of : List Entry → List Point
-points_of es = gathered corner_in es
+points_of es = flat_map corner_in es
 
 abbrev pub triangles_of : List Entry → List Triangle
-triangles_of es = gathered face_in es
+triangles_of es = flat_map face_in es
 
 -- the solid of the corners and faces, with the partner list ps. (No strike, height or sunward total depends on partners.)
 abbrev pub solid_of : List ℕ → List Entry → SolidModel
@@ -77,7 +73,7 @@ cast_in S (entry.Cast w dx dy dz) = record { solid = S; run = vector dx dy dz } 
 
 -- how many sunward triangles the casts bring
 abbrev pub total_of : List Entry → ℕ
-total_of es = all_sunward (gathered (cast_in (solid_of [] es)) es)
+total_of es = all_sunward (flat_map (cast_in (solid_of [] es)) es)
 
 -- ---- the set-up: what the last such line says. A job has one plan and one ground, and one frame at most
 abbrev pub blank : Setup
@@ -102,4 +98,4 @@ setup_of es = set_after blank es
 
 -- ---- the account of a survey that does what the lines say, with the solid S
 abbrev pub account_of : SolidModel → List Entry → Account
-account_of S es = account (setup_of es).ground_height (gathered (lay_in S) es) (gathered (cast_in S) es)
+account_of S es = account (setup_of es).ground_height (flat_map (lay_in S) es) (flat_map (cast_in S) es)

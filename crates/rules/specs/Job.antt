@@ -1,14 +1,14 @@
 -- A job by its parts: its only text, the rules that it obeys, and the room that it needs.
 use Rattle.std.specs.Prelude.{◌≡◌, ℕ, ◌+◌, ◌*◌, ◌<◌, ◌≤◌, true, List, [], ◌∷◌, ◌++◌, map, length, ℤ, Some, None, Option}
+use Rattle.std.specs.List.{AllByRecursion}
 use Rattle.geometry.specs.Vectors.{vector}
 use Rattle.geometry.specs.Limits.{in_run_limits}
 use Rattle.planes.specs.declared.frame.Cutout.{Cutout}
 use Rattle.survey.specs.Refusals.{is_ground}
-use Rattle.text.specs.declared.entry.Entry.{Entry}
-use Rattle.text.specs.declared.entry.Entry.TheVariants as entry
+use Rattle.text.specs.declared.head.Statement.TheVariants as entry
 use Rattle.text.specs.declared.entry.PlaneKind.{PlaneKind}
 use Rattle.text.specs.declared.entry.What.{What}
-use Rattle.text.specs.Entries.{Few}
+use Rattle.text.specs.Entries.{Entry, Few}
 use Rattle.text.specs.Spelling.{written}
 use Rattle.rules.specs.declared.room.Room.{Room}
 use Rattle.rules.specs.declared.setup.Setup.{Setup}
@@ -76,12 +76,10 @@ setup j = record { width = j.width; rows = j.rows; kind = j.kind; ground_height 
 -- ---- what is asked of it
 -- each number has at most six digits
 abbrev pub AllFew : List Entry → Type 0
-AllFew [] = Unit {0}
-AllFew (e ∷ es) = Few e × AllFew es
+AllFew es = AllByRecursion Few es
 
 abbrev pub AllFall : List Cast → Type 0
-AllFall [] = Unit {0}
-AllFall (s ∷ ss) = (in_run_limits (vector s.dx s.dy s.dz) ≡ true) × AllFall ss
+AllFall ss = AllByRecursion (λ s. in_run_limits (vector s.dx s.dy s.dz) ≡ true) ss
 
 -- the rules: a plane of 1 to 256 columns and rows, a ground within its limits; the faces, if any, make a solid with the corners, which
 -- are not looked at otherwise; what is laid or cast has faces; each run falls, and the casts bring 1,000,000 sunward triangles at most

@@ -6,8 +6,8 @@ use Rattle.geometry.specs.Limits.{between, in_run_limits}
 use Rattle.geometry.specs.declared.refusal.Refusal.{Refusal}
 use Rattle.geometry.specs.declared.refusal.Refusal.TheVariants as refusal
 use Rattle.survey.specs.Refusals.{unless, is_ground, has_triangles, stays_small}
-use Rattle.text.specs.declared.entry.Entry.{Entry}
-use Rattle.text.specs.declared.entry.Entry.TheVariants as entry
+use Rattle.text.specs.Entries.{Entry}
+use Rattle.text.specs.declared.head.Statement.TheVariants as entry
 use Rattle.text.specs.declared.entry.PlaneKind.{PlaneKind}
 use Rattle.text.specs.declared.entry.PlaneKind.TheVariants.{Line, Pack}
 use Rattle.rules.specs.declared.room.Room.{Room}

@@ -1,6 +1,6 @@
 -- What is true of texts and jobs.
 use Rattle.std.specs.Prelude.{◌≡◌, ℕ, List}
-use Rattle.text.specs.declared.entry.Entry.{Entry}
+use Rattle.text.specs.Entries.{Entry}
 use Rattle.text.specs.declared.fault.Fault.{Fault}
 use Rattle.rules.specs.declared.room.Room.{Room}
 use Rattle.rules.specs.Verdict.{Refused, Accepted}

@@ -9,11 +9,11 @@ use Rattle.solids.specs.declared.misfit.Site.TheVariants as site
 use Rattle.survey.specs.Picture.{header_of}
 use Rattle.text.specs.declared.head.Head.{Head}
 use Rattle.text.specs.declared.head.Head.TheVariants as head
-use Rattle.text.specs.declared.entry.Entry.{Entry}
-use Rattle.text.specs.declared.entry.Entry.TheVariants as entry
+use Rattle.text.specs.Heads.{head_of}
+use Rattle.text.specs.declared.head.Statement.TheVariants as entry
 use Rattle.text.specs.declared.fault.Fault.{Fault}
 use Rattle.text.specs.Text.{FirstLine}
-use Rattle.text.specs.Entries.{entry_head, Few}
+use Rattle.text.specs.Entries.{Entry, Few}
 use Rattle.text.specs.Order.{MayFollow}
 use Rattle.text.specs.Lines.{Parted, Reads, Unreadable}
 use Rattle.text.specs.Spelling.{written}
@@ -26,7 +26,7 @@ use Rattle.rules.specs.Tests.{line_refusal, size_of}
 -- the head of the last line; none where there is no line
 abbrev pub last_after : Option Head → List Entry → Option Head
 last_after o [] = o
-last_after o (e ∷ es) = last_after (Some (entry_head e)) es
+last_after o (e ∷ es) = last_after (Some (head_of e)) es
 
 abbrev pub last_of : List Entry → Option Head
 last_of es = last_after None es
@@ -95,9 +95,9 @@ Settled before rest = Due before rest → Matching before
 -- ---- lines that pass
 -- e may stand after the lines `before`
 pub record Passes (room : Room) (before : List Entry) (e : Entry) : Type 0 where
-  pub placed : MayFollow (last_of before) (entry_head e)
+  pub placed : MayFollow (last_of before) (head_of e)
   pub few : Few e
-  pub settled : last_of before ≡ Some head.Face → (entry_head e ≢ head.Face) → Matching before
+  pub settled : last_of before ≡ Some head.Face → (head_of e ≢ head.Face) → Matching before
   pub kept : line_refusal room before e ≡ None
 
 -- each of the lines es may stand after those before it

@@ -38,27 +38,20 @@ impl Setup {
                 width,
                 rows,
                 kind,
-                ground_height: self.ground_height,
-                cutout: self.cutout,
+                ..self
             },
             Entry::Ground { height } => Setup {
-                width: self.width,
-                rows: self.rows,
-                kind: self.kind,
                 ground_height: height,
-                cutout: self.cutout,
+                ..self
             },
             Entry::Frame { c0, r0, c1, r1 } => Setup {
-                width: self.width,
-                rows: self.rows,
-                kind: self.kind,
-                ground_height: self.ground_height,
                 cutout: Some(Cutout {
-                    c0: c0 as i64,
-                    r0: r0 as i64,
-                    c1: c1 as i64,
-                    r1: r1 as i64,
+                    c0: c0.into(),
+                    r0: r0.into(),
+                    c1: c1.into(),
+                    r1: r1.into(),
                 }),
+                ..self
             },
             _ => self,
         }

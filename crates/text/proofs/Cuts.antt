@@ -1,12 +1,15 @@
 -- A list that is cut at the first place of a byte.
-use Rattle.std.proofs.Common.{◌≡◌, ℕ, suc, ◌+◌, ◌-◌, ◌<◌, ◌≤◌, cond, eqb, leb, List, [], ◌∷◌, ◌++◌, length, get_or, take, drop, sym, refl, ap, ◌∙◌, ⊎_elim, arith, length-drop, take-append-drop, length-take, get_or-drop, get_or-take}
-use Rattle.std.proofs.lemmas.List.{take_all, drop-drop, drop_more}
-use Rattle.std.proofs.lemmas.Bool.{eqb-true, eq-eqb, ne_eqb, le-leb, lt-leb, cond-true, cond-false, cond_both, cases_lt}
+use Rattle.std.proofs.Common.{◌≡◌, ℕ, ◌+◌, ◌-◌, ◌<◌, ◌≤◌, Bool, true, false, cond, eqb, leb, ltb, List, [], ◌∷◌, ◌++◌, length, get_or, take, drop, sym, refl, ap, ◌∙◌, subst, ⊎_elim, arith, length-drop, take-append-drop, length-take, get_or-take}
+use Rattle.std.specs.Int.{from_bool}
+use Rattle.std.specs.Prelude.{◌≢◌}
+use Rattle.std.proofs.lemmas.List.Elements.{recursion_from_All, All-from_get_or}
+use Rattle.std.proofs.lemmas.List.{take_all, drop_all, drop-drop, drop_more, append-nil}
+use Rattle.std.proofs.lemmas.Bool.{true≢false, eqb-true, eq-eqb, ne_eqb, le-leb, lt-leb, cond-true, cond-false, cond_both, cases_lt, ltb-true, ltb-false}
 use Rattle.text.specs.Pieces.{Without, onto, pieces, glued, AllWithout}
+use Rattle.text.specs.Text.{FirstLine}
 
 pub without_from : (b : ℕ) (l : List ℕ) → ((k : ℕ) → k < length l → get_or l k 0 ≡ b → ⊥) → Without b l
-without_from b [] h = tt
-without_from b (c ∷ cs) h = (h 0 (omega arith), without_from b cs (λ k lt. h (suc k) (omega arith)))
+without_from b l h = recursion_from_All (λ c. c ≢ b) l (All-from_get_or (λ c. c ≢ b) l 0 h)
 
 pub pieces-last : (b : ℕ) (p : List ℕ) → Without b p → pieces b p ≡ p ∷ []
 pieces-last b [] w = refl
@@ -23,41 +26,37 @@ pieces-glued b (p ∷ []) some w = pieces-last b p w.0
 pieces-glued b (p ∷ q ∷ ps) some w =
     pieces-cut b p (glued b (q ∷ ps)) w.0 ∙ ap (λ (r : List (List ℕ)). p ∷ r) (pieces-glued b (q ∷ ps) (omega arith) w.1)
 
--- from a place on, up to the first b
-module _ (b : ℕ) (l : List ℕ) (from end : ℕ) (le : from ≤ end) (within : end ≤ length l) where
-  pub part_without : ((k : ℕ) → from ≤ k → k < end → get_or l k 0 ≡ b → ⊥) → Without b (take (end - from) (drop from l))
-  part_without h =
-      without_from b _ (λ k lt e.
-      let lt' : k < end - from = omega (arith, lt, length-take (end - from) (drop from l)) in
-      let at : get_or (take (end - from) (drop from l)) k 0 ≡ get_or l (from + k) 0 = get_or-take (end - from) (drop from l) k 0 lt' ∙ get_or-drop from l k 0 in
-      h (from + k) (omega arith) (omega arith) (sym at ∙ e))
+-- up to the first b of a text, or to its end
+module _ (b : ℕ) (l : List ℕ) (end : ℕ) where
+  part_without : ((k : ℕ) → k < end → get_or l k 0 ≡ b → ⊥) → Without b (take end l)
+  part_without before =
+      without_from b (take end l) (λ k lt e.
+      let lt' : k < end = omega (arith, lt, length-take end l) in
+      before k lt' (sym (get_or-take end l k 0 lt') ∙ e))
 
-  pub part_cut : end < length l → get_or l end 0 ≡ b → drop from l ≡ take (end - from) (drop from l) ++ b ∷ drop (end + 1) l
-  part_cut lt e =
-      let sum : from + (end - from) ≡ end = omega arith in
-      let back : drop (end - from) (drop from l) ≡ b ∷ drop (end + 1) l = drop-drop (end - from) from l ∙ ap (λ (n : ℕ). drop n l) sum ∙ drop_more l end 0 lt ∙ ap (λ (c : ℕ). c ∷ drop (end + 1) l) e in
-      sym (take-append-drop (end - from) (drop from l)) ∙ ap (λ (r : List ℕ). take (end - from) (drop from l) ++ r) back
+  part_cut : end < length l → get_or l end 0 ≡ b → l ≡ take end l ++ b ∷ drop (end + 1) l
+  part_cut lt e = sym (take-append-drop end l) ∙ ap (λ (r : List ℕ). take end l ++ r) (drop_more l end 0 lt ∙ ap (λ (c : ℕ). c ∷ drop (end + 1) l) e)
 
-  pub part_last : length l ≤ end → take (end - from) (drop from l) ≡ drop from l
-  part_last h = take_all (end - from) (drop from l) (simp length-drop (omega arith))
+-- what is left of l from a place on is r, and `end` is the first place of b in it, or its length where there is none
+module _ (b : ℕ) (l r : List ℕ) (from end : ℕ) (is : r ≡ drop from l) (before : (k : ℕ) → k < end → get_or r k 0 ≡ b → ⊥) (found : end < length r → get_or r end 0 ≡ b) where
+  behind : (n : ℕ) → drop n r ≡ drop (from + n) l
+  behind n = ap (drop n) is ∙ drop-drop n from l
 
--- the parts from a place on: the one up to the first b, and those behind it
-pub parts_more : (b : ℕ) (l : List ℕ) (from end : ℕ) → from ≤ end → end ≤ length l → ((k : ℕ) → from ≤ k → k < end → get_or l k 0 ≡ b → ⊥) → (end < length l → get_or l end 0 ≡ b) → cond (leb from (length l)) (pieces b (drop from l)) [] ≡ take (end - from) (drop from l) ∷ cond (leb (end + 1) (length l)) (pieces b (drop (end + 1) l)) []
-parts_more b l from end le within before found =
-    let part = take (end - from) (drop from l) in
-    let plain = part_without b l from end le within before in
-    let first = cond-true (leb from (length l)) (pieces b (drop from l)) [] (le-leb from (length l) (omega arith)) in
-    ⊎_elim
-    (λ (lt : end < length l).
-    first ∙ ap (pieces b) (part_cut b l from end le within lt (found lt)) ∙ pieces-cut b part (drop (end + 1) l) plain
-    ∙ ap (λ (r : List (List ℕ)). part ∷ r) (sym (cond-true (leb (end + 1) (length l)) (pieces b (drop (end + 1) l)) [] (le-leb (end + 1) (length l) (omega arith)))))
-    (λ (ge : length l ≤ end).
-    first ∙ ap (pieces b) (sym (part_last b l from end le within ge)) ∙ pieces-last b part plain
-    ∙ ap (λ (r : List (List ℕ)). part ∷ r) (sym (cond-false (leb (end + 1) (length l)) (pieces b (drop (end + 1) l)) [] (lt-leb (end + 1) (length l) (omega arith)))))
-    (cases_lt end (length l))
-
-pub part_some : (b : ℕ) (l : List ℕ) (from end : ℕ) → from ≤ end → end ≤ length l → from < length l → length l ≤ end → 0 < length (take (end - from) (drop from l))
-part_some b l from end le within some h = simp (length-take, length-drop) (omega arith)
+  -- its parts are the one up to that place, and those behind it
+  pub parts_more : from ≤ length l → cond (leb from (length l)) (pieces b (drop from l)) [] ≡ take end r ∷ cond (leb (from + (end + 1)) (length l)) (pieces b (drop (from + (end + 1)) l)) []
+  parts_more le =
+      let plain = part_without b r end before in
+      let long : length r ≡ length l - from = ap length is ∙ length-drop from l in
+      let first : cond (leb from (length l)) (pieces b (drop from l)) [] ≡ pieces b r = cond-true (leb from (length l)) _ _ (le-leb from (length l) le) ∙ ap (pieces b) (sym is) in
+      let onto_rest : (ps : List (List ℕ)) → ps ≡ cond (leb (from + (end + 1)) (length l)) (pieces b (drop (from + (end + 1)) l)) [] → take end r ∷ ps ≡ take end r ∷ cond (leb (from + (end + 1)) (length l)) (pieces b (drop (from + (end + 1)) l)) [] = λ ps e. ap (λ (ps : List (List ℕ)). take end r ∷ ps) e in
+      ⊎_elim
+      (λ (lt : end < length r).
+      first ∙ ap (pieces b) (part_cut b r end lt (found lt)) ∙ pieces-cut b (take end r) (drop (end + 1) r) plain
+      ∙ onto_rest _ (ap (pieces b) (behind (end + 1)) ∙ sym (cond-true (leb (from + (end + 1)) (length l)) _ _ (le-leb (from + (end + 1)) (length l) (omega arith)))))
+      (λ (ge : length r ≤ end).
+      first ∙ ap (pieces b) (sym (take_all end r ge)) ∙ pieces-last b (take end r) plain
+      ∙ onto_rest _ (sym (cond-false (leb (from + (end + 1)) (length l)) _ _ (lt-leb (from + (end + 1)) (length l) (omega arith)))))
+      (cases_lt end (length r))
 
 length-onto : (c : ℕ) (ps : List (List ℕ)) → length (onto c ps) ≡ length ps
 length-onto c [] = refl
@@ -85,3 +84,21 @@ glued-pieces b (c ∷ cs) =
     cond_both (eqb c b) ([] ∷ pieces b cs) (onto c (pieces b cs)) (λ (ps : List (List ℕ)). glued b ps ≡ c ∷ cs)
     (λ e. glued-empty b (pieces b cs) (pieces-some b cs) ∙ ap (λ (l : List ℕ). b ∷ l) (glued-pieces b cs) ∙ ap (λ (x : ℕ). x ∷ cs) (sym (eqb-true c b e)))
     (λ e. glued-onto b c (pieces b cs) (pieces-some b cs) ∙ ap (λ (l : List ℕ). c ∷ l) (glued-pieces b cs))
+
+-- the first line of a text ends at its first byte 10, or else at its end
+pub first_line : (l r : List ℕ) (from end n : ℕ) (ended : Bool) → r ≡ drop from l → 0 < length r → ((k : ℕ) → k < end → get_or r k 0 ≡ 10 → ⊥) → (end < length r → get_or r end 0 ≡ 10) → ended ≡ ltb end (length r) → n ≡ from_bool ended → FirstLine (drop from l) (take end r) ended (drop (from + (end + n)) l)
+first_line l r from end n true is some before found test one =
+    let lt : end < length r = ltb-true end (length r) (sym test) in
+    record {
+      plain = part_without 10 r end before;
+      whole = sym is ∙ part_cut 10 r end lt (found lt) ∙ ap (λ (t : List ℕ). take end r ++ 10 ∷ t) (behind 10 l r from end is before found (end + 1) ∙ ap (λ (m : ℕ). drop (from + (end + m)) l) (sym one));
+      last = λ e. absurd (true≢false e);
+    }
+first_line l r from end n false is some before found test none =
+    let ge : length r ≤ end = ltb-false end (length r) (sym test) in
+    let all : take end r ≡ r = take_all end r ge in
+    record {
+      plain = part_without 10 r end before;
+      whole = sym is ∙ sym all ∙ sym (append-nil _);
+      last = λ e. (subst (λ (t : List ℕ). 0 < length t) (sym all) some, sym (behind 10 l r from end is before found (end + n)) ∙ drop_all (end + n) r (omega arith));
+    }

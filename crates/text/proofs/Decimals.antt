@@ -1,12 +1,12 @@
 -- Which texts are numerals of one to six digits.
 use Rattle.std.proofs.Common.{◌≡◌, ℕ, suc, ◌-◌, ◌<◌, ◌≤◌, List, ◌∷◌, length, get_or, take, drop, ℤ, pos, negsuc, decimal, sym, ap, ◌∙◌, subst, ⊎_elim, arith}
 use Rattle.std.specs.Str.Parse.{AllDigits, digits_value}
-use Rattle.std.specs.Char.{digit_value}
 use Rattle.std.proofs.lemmas.Str.Parse.{IsNumeralModel, numerals_by_value, tells_digits, digit_at, digits_value_short}
 use Rattle.std.proofs.lemmas.Fmt.{digits_decimal, decimal_nonempty, length-decimal-le, first_decimal, decimal_digit, decimal-digits_value, decimal_injective}
+use Rattle.std.specs.Char.{digit_value}
+use Rattle.std.proofs.lemmas.Str.{digit_value_digit}
 use Rattle.std.proofs.lemmas.Slice.{first_rest}
 use Rattle.std.proofs.lemmas.Bool.{cases_eq}
-use Rattle.std.proofs.lemmas.Bool.Decides.{nat_tests}
 use Rattle.std.proofs.lemmas.List.{length-take}
 use Rattle.text.specs.Number.{Numeral, Spells}
 
@@ -38,20 +38,12 @@ numeral_from bs d some few plain =
     let below : digits_value 10 bs < 1000000 = digits_value_short own bs 6 d few in
     record { few = below; text = sym (decimal-digits_value own bs d some plain (omega arith)) }
 
-pub digit_is : (c : ℕ) → 48 ≤ c → c ≤ 57 → digit_value c ≡ c - 48
-digit_is c lo hi = grind (arith, nat_tests)
+pub digit_below : (bs : List ℕ) (n i : ℕ) → Numeral bs n → i < length bs → digit_value (get_or bs i 0) < 10
+digit_below bs n i h lt = omega (arith, digit_value_digit (get_or bs i 0) (digit_at bs i (numeral_digits bs n h) lt), (digit_at bs i (numeral_digits bs n h) lt).1)
 
 -- what fewer than six digits write
 pub below : (bs : List ℕ) (i : ℕ) → AllDigits 10 (take i bs) → i ≤ 6 → digits_value 10 (take i bs) < 1000000
 below bs i d h = digits_value_short own (take i bs) 6 d (simp length-take (omega arith))
-
--- a text that begins with a minus is what is written of -(m + 1) where the rest is what is written of m + 1
-pub minus_spells : (bs ds : List ℕ) (m : ℕ) (z : ℤ) → bs ≡ 45 ∷ ds → z ≡ negsuc m → Numeral ds (suc m) → Spells bs z
-minus_spells bs ds m z e is h =
-    subst (Spells bs) (sym is) (record { few = omega (arith, h.few); text = e ∙ ap (λ (l : List ℕ). 45 ∷ l) h.text })
-
-pub plain_spells : (bs : List ℕ) (n : ℕ) (z : ℤ) → z ≡ pos n → Numeral bs n → Spells bs z
-plain_spells bs n z is h = subst (Spells bs) (sym is) (record { few = h.few; text = h.text })
 
 -- the digits behind a minus
 pub behind_minus : (bs ds : List ℕ) (z : ℤ) → bs ≡ 45 ∷ ds → Spells bs z → (m : ℕ) × Numeral ds (suc m)
@@ -60,12 +52,6 @@ behind_minus bs ds (pos n) e h =
     let d = digit_at (45 ∷ ds) 0 (numeral_digits _ n h') (omega arith) in
     absurd (omega (arith, d.0))
 behind_minus bs ds (negsuc n) e h = (n, record { few = omega (arith, h.few); text = ap (λ (l : List ℕ). drop 1 l) (sym e ∙ h.text) })
-
--- a text that does not begin with one
-pub no_minus : (bs : List ℕ) (z : ℤ) → (0 < length bs → get_or bs 0 0 ≡ 45 → ⊥) → Spells bs z → (n : ℕ) × Numeral bs n
-no_minus bs (pos n) free h = (n, record { few = h.few; text = h.text })
-no_minus bs (negsuc n) free h =
-    absurd (free (omega (arith, ap length h.text)) (ap (λ (l : List ℕ). get_or l 0 0) h.text))
 
 pub first_and_rest : (bs : List ℕ) → 0 < length bs → get_or bs 0 0 ≡ 45 → bs ≡ 45 ∷ take (length bs - 1) (drop 1 bs)
 first_and_rest bs some e = first_rest bs 0 some ∙ ap (λ (c : ℕ). c ∷ take (length bs - 1) (drop 1 bs)) e

@@ -1,14 +1,14 @@
--- Records and the shapes of their lines.
-use Rattle.std.proofs.Common.{◌≡◌, length, refl}
-use Rattle.text.specs.declared.head.Record.{Record}
-use Rattle.text.specs.declared.head.Record.TheVariants as rec
-use Rattle.text.specs.Heads.{shape, head_of, fields}
+-- Statements and the shapes of their lines.
+use Rattle.std.proofs.Common.{◌≡◌, ℕ, List, length, refl}
+use Rattle.text.specs.declared.head.Statement.{Statement}
+use Rattle.text.specs.declared.head.Statement.TheVariants as say
+use Rattle.text.specs.Heads.{shape, head_of, written_by}
 
-pub fields_shape : (r : Record) → length (fields r) ≡ length (shape (head_of r))
-fields_shape (rec.Plan a b c) = refl
-fields_shape (rec.Ground a) = refl
-fields_shape (rec.Frame a b c d) = refl
-fields_shape (rec.Corner a b c) = refl
-fields_shape (rec.Face a b c) = refl
-fields_shape (rec.Lay a) = refl
-fields_shape (rec.Cast a b c d) = refl
+pub fields_shape : {N K W : Type 0} (n : N → List ℕ) (k : K → List ℕ) (w : W → List ℕ) (s : Statement N K W) → length (written_by n k w s) ≡ length (shape (head_of s))
+fields_shape n k w (say.Plan a b c) = refl
+fields_shape n k w (say.Ground a) = refl
+fields_shape n k w (say.Frame a b c d) = refl
+fields_shape n k w (say.Corner a b c) = refl
+fields_shape n k w (say.Face a b c) = refl
+fields_shape n k w (say.Lay a) = refl
+fields_shape n k w (say.Cast a b c d) = refl

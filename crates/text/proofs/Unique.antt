@@ -5,11 +5,10 @@ use Rattle.std.specs.Fmt.{signed_decimal}
 use Rattle.std.proofs.lemmas.List.{append_cancel_left}
 use Rattle.std.proofs.lemmas.Str.Parse.{digit_at}
 use Rattle.std.proofs.lemmas.Fmt.{decimal_is_IsNumeral}
-use Rattle.std.proofs.lemmas.Bool.{true≢false, cond-false, ne_eqb}
+use Rattle.std.proofs.lemmas.Bool.{cond-false, ne_eqb}
 use Rattle.text.specs.declared.head.Head.{Head}
 use Rattle.text.specs.declared.head.Head.TheVariants as head
-use Rattle.text.specs.declared.entry.Entry.{Entry}
-use Rattle.text.specs.declared.entry.Entry.TheVariants as entry
+use Rattle.text.specs.declared.head.Statement.TheVariants as entry
 use Rattle.text.specs.declared.entry.PlaneKind.{PlaneKind}
 use Rattle.text.specs.declared.entry.PlaneKind.TheVariants.{Line, Pack}
 use Rattle.text.specs.declared.entry.What.{What}
@@ -17,14 +16,15 @@ use Rattle.text.specs.declared.entry.What.TheVariants.{Solids}
 use Rattle.text.specs.declared.fault.Fault.{Fault}
 use Rattle.text.specs.Pieces.{Without, pieces}
 use Rattle.text.specs.Text.{FirstLine}
-use Rattle.text.specs.Heads.{Sort, number, word, shape}
+use Rattle.text.specs.Heads.{Sort, number, word, shape, head_of}
 use Rattle.text.specs.Number.{Numeral, SixDigits}
-use Rattle.text.specs.Entries.{entry_head, spelt, Few, kind_word, Good, FirstBad}
+use Rattle.text.specs.Entries.{Entry, spelt, Few, kind_word, what_word, Good, FirstBad}
 use Rattle.text.specs.Lines.{Parted, Reads, Headed, Misheaded, Unreadable, unended, unknown, misplaced, misheaded, miscounted, misspelt}
 use Rattle.geometry.specs.declared.refusal.Refusal.TheVariants as refusal
 use Rattle.text.specs.Faults.{fault_at}
 use Rattle.text.specs.Order.{MayFollow}
 use Rattle.text.proofs.Cuts.{pieces-cut, pieces-last, pieces-some}
+use Rattle.text.proofs.Shapes.{fields_shape}
 use Rattle.text.proofs.Decimals.{numeral_digits, numeral_some}
 
 pub first_of : {X : Type 0} {x y : X} {xs ys : List X} → x ∷ xs ≡ y ∷ ys → x ≡ y
@@ -115,7 +115,7 @@ rebuilt head.Face fs = entry.Face (from_number (get_or fs 0 [])) (from_number (g
 rebuilt head.Lay fs = entry.Lay Solids
 rebuilt head.Cast fs = entry.Cast Solids (from_number (get_or fs 1 [])) (from_number (get_or fs 2 [])) (from_number (get_or fs 3 []))
 
-rebuilt_spelt : (e : Entry) → Few e → rebuilt (entry_head e) (spelt e) ≡ e
+rebuilt_spelt : (e : Entry) → Few e → rebuilt (head_of e) (spelt e) ≡ e
 rebuilt_spelt (entry.Plan w r k) f = let a = from_number_lem w f.0 in let b = from_number_lem r f.1 in let d = from_kind_lem k in λ i. entry.Plan (a i) (b i) (d i)
 rebuilt_spelt (entry.Ground g) f = λ i. entry.Ground (from_number_lem g f i)
 rebuilt_spelt (entry.Frame c0 r0 c1 r1) f = λ i. entry.Frame (from_number_lem c0 f.0 i) (from_number_lem r0 f.1 i) (from_number_lem c1 f.2 i) (from_number_lem r1 f.3 i)
@@ -128,7 +128,7 @@ rebuilt_spelt (entry.Cast w x y z) f = λ i. entry.Cast (one_what Solids w i) (f
 pub same_entry : (o : Option Head) (l : List ℕ) (b : Bool) (e f : Entry) → Reads o l b e → Reads o l b f → e ≡ f
 same_entry o l b e f p q =
     let both = sym p.headed.parts ∙ q.headed.parts in
-    let heads : entry_head e ≡ entry_head f = same_word _ _ (first_of both) in
+    let heads : head_of e ≡ head_of f = same_word _ _ (first_of both) in
     let fields : spelt e ≡ spelt f = sym p.says.text ∙ rest_of both ∙ q.says.text in
     sym (rebuilt_spelt e p.says.few) ∙ (λ i. rebuilt (heads i) (fields i)) ∙ rebuilt_spelt f q.says.few
 
@@ -158,7 +158,7 @@ good_bad (s ∷ ss) (f ∷ fs) (suc (suc k)) g p = good_bad ss fs (suc k) g.1 p.
 is_number : (z : ℤ) → SixDigits z → Good number (signed_decimal z)
 is_number z f = (z, record { few = f; text = refl })
 
-spelt_good : (e : Entry) → Few e → AllGood (shape (entry_head e)) (spelt e)
+spelt_good : (e : Entry) → Few e → AllGood (shape (head_of e)) (spelt e)
 spelt_good (entry.Plan w r k) f = (is_number w f.0, (is_number r f.1, ((k, refl), tt)))
 spelt_good (entry.Ground g) f = (is_number g f, tt)
 spelt_good (entry.Frame c0 r0 c1 r1) f = (is_number c0 f.0, (is_number r0 f.1, (is_number c1 f.2, (is_number r1 f.3, tt))))
@@ -167,17 +167,8 @@ spelt_good (entry.Face a b c) f = (is_number a f.0, (is_number b f.1, (is_number
 spelt_good (entry.Lay w) f = ((w, refl), tt)
 spelt_good (entry.Cast w x y z) f = ((w, refl), (is_number x f.0, (is_number y f.1, (is_number z f.2, tt))))
 
-length-spelt : (e : Entry) → length (spelt e) ≡ length (shape (entry_head e))
-length-spelt (entry.Plan w r k) = refl
-length-spelt (entry.Ground g) = refl
-length-spelt (entry.Frame c0 r0 c1 r1) = refl
-length-spelt (entry.Corner x y z) = refl
-length-spelt (entry.Face a b c) = refl
-length-spelt (entry.Lay w) = refl
-length-spelt (entry.Cast w x y z) = refl
-
-ends_both : (b : Bool) → b ≡ false → b ≡ true → ⊥
-ends_both b p q = true≢false (sym q ∙ p)
+length-spelt : (e : Entry) → length (spelt e) ≡ length (shape (head_of e))
+length-spelt e = fields_shape signed_decimal kind_word what_word e
 
 -- a line has one head and one list of fields
 record SameParts (h k : Head) (fs gs : List (List ℕ)) : Type 0 where
@@ -189,7 +180,7 @@ same_parts l h k fs gs p q = let both = sym p ∙ q in record { head = same_word
 
 module _ {o : Option Head} {l : List ℕ} {b : Bool} where
   well_headed : (h : Head) (fs : List (List ℕ)) → Headed o l b h fs → Misheaded o l b → ⊥
-  well_headed h fs r (unended p) = ends_both b p r.whole
+  well_headed h fs r (unended p) = cc (p, r.whole)
   well_headed h fs r (unknown p) = p h fs r.parts
   well_headed h fs r (misplaced k gs p never) = never (subst (MayFollow o) (same_parts l h k fs gs r.parts p).head r.placed)
 
@@ -201,8 +192,8 @@ module _ {o : Option Head} {l : List ℕ} {b : Bool} where
       more (ap length (sym s.fields ∙ r.says.text) ∙ length-spelt e ∙ ap (λ (k : Head). length (shape k)) s.head)
   not_unreadable n e f r (misspelt h fs k p len bad) =
       let s = same_parts l _ _ _ _ r.headed.parts p.parts in
-      good_bad (shape (entry_head e)) (spelt e) k (spelt_good e r.says.few)
-      (subst (λ (gs : List (List ℕ)). FirstBad (shape (entry_head e)) gs k) (sym s.fields ∙ r.says.text)
+      good_bad (shape (head_of e)) (spelt e) k (spelt_good e r.says.few)
+      (subst (λ (gs : List (List ℕ)). FirstBad (shape (head_of e)) gs k) (sym s.fields ∙ r.says.text)
       (subst (λ (m : Head). FirstBad (shape m) fs k) (sym s.head) bad))
 
   same_length : (h k : Head) (fs gs : List (List ℕ)) → Headed o l b h fs → Headed o l b k gs → length fs ≡ length (shape h) → length gs ≡ length (shape k)

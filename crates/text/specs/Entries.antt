@@ -2,14 +2,13 @@
 use Rattle.std.specs.Prelude.{◌≡◌, ℕ, zero, suc, List, [], ◌∷◌, ℤ, codes}
 use Rattle.std.specs.Fmt.{signed_decimal}
 use Rattle.text.specs.declared.head.Head.{Head}
-use Rattle.text.specs.declared.head.Head.TheVariants as head
-use Rattle.text.specs.declared.entry.Entry.{Entry}
-use Rattle.text.specs.declared.entry.Entry.TheVariants as entry
+use Rattle.text.specs.declared.head.Statement.{Statement}
+use Rattle.text.specs.declared.head.Statement.TheVariants as entry
 use Rattle.text.specs.declared.entry.PlaneKind.{PlaneKind}
 use Rattle.text.specs.declared.entry.PlaneKind.TheVariants.{Line, Pack}
 use Rattle.text.specs.declared.entry.What.{What}
 use Rattle.text.specs.declared.entry.What.TheVariants.{Solids}
-use Rattle.text.specs.Heads.{Sort, number, plane_kind, what}
+use Rattle.text.specs.Heads.{Sort, number, plane_kind, what, head_of, written_by}
 use Rattle.text.specs.Number.{SixDigits, Spells}
 
 abbrev pub kind_word : PlaneKind → List ℕ
@@ -19,24 +18,13 @@ kind_word Pack = codes "pack"
 abbrev pub what_word : What → List ℕ
 what_word Solids = codes "solids"
 
-abbrev pub entry_head : Entry → Head
-entry_head (entry.Plan w r k) = head.Plan
-entry_head (entry.Ground g) = head.Ground
-entry_head (entry.Frame c0 r0 c1 r1) = head.Frame
-entry_head (entry.Corner x y z) = head.Corner
-entry_head (entry.Face a b c) = head.Face
-entry_head (entry.Lay w) = head.Lay
-entry_head (entry.Cast w x y z) = head.Cast
+-- what a line says
+abbrev pub Entry : Type 0
+Entry = Statement ℤ PlaneKind What
 
 -- the fields that say it
 abbrev pub spelt : Entry → List (List ℕ)
-spelt (entry.Plan w r k) = signed_decimal w ∷ signed_decimal r ∷ kind_word k ∷ []
-spelt (entry.Ground g) = signed_decimal g ∷ []
-spelt (entry.Frame c0 r0 c1 r1) = signed_decimal c0 ∷ signed_decimal r0 ∷ signed_decimal c1 ∷ signed_decimal r1 ∷ []
-spelt (entry.Corner x y z) = signed_decimal x ∷ signed_decimal y ∷ signed_decimal z ∷ []
-spelt (entry.Face a b c) = signed_decimal a ∷ signed_decimal b ∷ signed_decimal c ∷ []
-spelt (entry.Lay w) = what_word w ∷ []
-spelt (entry.Cast w x y z) = what_word w ∷ signed_decimal x ∷ signed_decimal y ∷ signed_decimal z ∷ []
+spelt e = written_by signed_decimal kind_word what_word e
 
 -- each of its numbers has at most six digits
 abbrev pub Few : Entry → Type 0
@@ -50,7 +38,7 @@ Few (entry.Cast w x y z) = SixDigits x × SixDigits y × SixDigits z
 
 -- a line with this head and these fields says e
 pub record Says (h : Head) (fs : List (List ℕ)) (e : Entry) : Type 0 where
-  pub kind : h ≡ entry_head e
+  pub kind : h ≡ head_of e
   pub text : fs ≡ spelt e
   pub few : Few e
 

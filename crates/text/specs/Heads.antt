@@ -1,9 +1,10 @@
 -- The heads of a job's lines, and how many fields stand behind each.
 use Rattle.std.specs.Prelude.{ℕ, List, [], ◌∷◌, codes}
+use Rattle.std.specs.Borrow.{Bor}
 use Rattle.text.specs.declared.head.Head.{Head}
 use Rattle.text.specs.declared.head.Head.TheVariants as head
-use Rattle.text.specs.declared.head.Record.{Record}
-use Rattle.text.specs.declared.head.Record.TheVariants as rec
+use Rattle.text.specs.declared.head.Statement.{Statement}
+use Rattle.text.specs.declared.head.Statement.TheVariants as say
 
 abbrev pub word : Head → List ℕ
 word head.Plan = codes "plan"
@@ -29,21 +30,28 @@ shape head.Face = number ∷ number ∷ number ∷ []
 shape head.Lay = what ∷ []
 shape head.Cast = what ∷ number ∷ number ∷ number ∷ []
 
-abbrev pub head_of : Record → Head
-head_of (rec.Plan a b c) = head.Plan
-head_of (rec.Ground a) = head.Ground
-head_of (rec.Frame a b c d) = head.Frame
-head_of (rec.Corner a b c) = head.Corner
-head_of (rec.Face a b c) = head.Face
-head_of (rec.Lay a) = head.Lay
-head_of (rec.Cast a b c d) = head.Cast
+abbrev pub head_of : {N K W : Type 0} → Statement N K W → Head
+head_of (say.Plan w r k) = head.Plan
+head_of (say.Ground g) = head.Ground
+head_of (say.Frame c0 r0 c1 r1) = head.Frame
+head_of (say.Corner x y z) = head.Corner
+head_of (say.Face a b c) = head.Face
+head_of (say.Lay w) = head.Lay
+head_of (say.Cast w x y z) = head.Cast
 
--- the fields of a record, in order
+-- the fields in order, where n, k and w write a number, a kind of plane and what is drawn
+abbrev pub written_by : {N K W : Type 0} → (N → List ℕ) → (K → List ℕ) → (W → List ℕ) → Statement N K W → List (List ℕ)
+written_by n k w (say.Plan a b c) = n a ∷ n b ∷ k c ∷ []
+written_by n k w (say.Ground a) = n a ∷ []
+written_by n k w (say.Frame a b c d) = n a ∷ n b ∷ n c ∷ n d ∷ []
+written_by n k w (say.Corner a b c) = n a ∷ n b ∷ n c ∷ []
+written_by n k w (say.Face a b c) = n a ∷ n b ∷ n c ∷ []
+written_by n k w (say.Lay a) = w a ∷ []
+written_by n k w (say.Cast a b c d) = w a ∷ n b ∷ n c ∷ n d ∷ []
+
+-- a line whose fields are parts of the text
+abbrev pub Record : Type 0
+Record = Statement (Bor (List ℕ)) (Bor (List ℕ)) (Bor (List ℕ))
+
 abbrev pub fields : Record → List (List ℕ)
-fields (rec.Plan a b c) = a.now ∷ b.now ∷ c.now ∷ []
-fields (rec.Ground a) = a.now ∷ []
-fields (rec.Frame a b c d) = a.now ∷ b.now ∷ c.now ∷ d.now ∷ []
-fields (rec.Corner a b c) = a.now ∷ b.now ∷ c.now ∷ []
-fields (rec.Face a b c) = a.now ∷ b.now ∷ c.now ∷ []
-fields (rec.Lay a) = a.now ∷ []
-fields (rec.Cast a b c d) = a.now ∷ b.now ∷ c.now ∷ d.now ∷ []
+fields r = written_by (λ a. a.now) (λ a. a.now) (λ a. a.now) r

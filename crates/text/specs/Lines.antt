@@ -1,13 +1,12 @@
 -- Which lines pass the tests of the text, and what the others are refused with.
 use Rattle.std.specs.Prelude.{◌≡◌, ℕ, Bool, true, false, List, ◌∷◌, length, Option, ◌≢◌}
 use Rattle.text.specs.declared.head.Head.{Head}
-use Rattle.text.specs.declared.entry.Entry.{Entry}
 use Rattle.text.specs.declared.fault.Fault.{Fault}
 use Rattle.geometry.specs.declared.refusal.Refusal.TheVariants as refusal
 use Rattle.text.specs.Pieces.{pieces}
-use Rattle.text.specs.Heads.{word, shape}
+use Rattle.text.specs.Heads.{word, shape, head_of}
 use Rattle.text.specs.Order.{MayFollow}
-use Rattle.text.specs.Entries.{Says, FirstBad, entry_head}
+use Rattle.text.specs.Entries.{Entry, Says, FirstBad}
 use Rattle.text.specs.Faults.{fault_at}
 
 -- the line's parts are the word for h and then the fields fs
@@ -23,8 +22,8 @@ pub record Headed (last : Option Head) (l : List ℕ) (ended : Bool) (h : Head) 
 -- the line says e, and may stand after a line whose head is `last`
 pub record Reads (last : Option Head) (l : List ℕ) (ended : Bool) (e : Entry) : Type 0 where
   pub fields : List (List ℕ)
-  pub headed : Headed last l ended (entry_head e) fields
-  pub says : Says (entry_head e) fields e
+  pub headed : Headed last l ended (head_of e) fields
+  pub says : Says (head_of e) fields e
 
 -- the head is unknown or misplaced, or the line has no end
 pub data Misheaded (last : Option Head) (l : List ℕ) (ended : Bool) : Type 0 where

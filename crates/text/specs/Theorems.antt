@@ -1,7 +1,7 @@
 -- What is true of lines: each is cut and read in one way.
 use Rattle.std.specs.Prelude.{◌≡◌, ℕ, Bool, List, Option}
 use Rattle.text.specs.declared.head.Head.{Head}
-use Rattle.text.specs.declared.entry.Entry.{Entry}
+use Rattle.text.specs.Entries.{Entry}
 use Rattle.text.specs.declared.fault.Fault.{Fault}
 use Rattle.text.specs.Lines.{Reads, Unreadable}
 

@@ -15,11 +15,11 @@ pub enum Part {
     Survey = 3,
 }
 
-impl Part {
-    // The part that a refusal belongs to.
-    pub fn of(refusal: Refusal) -> Part
-        ensures { result ≡ part_of refusal }
-    {
+// The part that a refusal belongs to.
+impl From<Refusal> for Part {
+    ghost from_gives = { λ refusal part. part ≡ part_of refusal };
+
+    fn from(refusal: Refusal) -> Part {
         match refusal {
             Refusal::Head | Refusal::Fields | Refusal::Field | Refusal::Room => Part::Text,
             Refusal::Coordinate
@@ -35,17 +35,19 @@ impl Part {
             | Refusal::Picture => Part::Survey,
         }
     }
+}
 
-    // The number that stands for the part.
-    pub fn number(self) -> u8
-        ensures { result ≡ part_number self }
-    {
-        self as u8
+// The number that stands for the part.
+impl From<Part> for u8 {
+    ghost from_gives = { λ part number. number ≡ part_number part };
+
+    fn from(part: Part) -> u8 {
+        part as u8
     }
 }
 
 // A refusal, the part of the work that it belongs to, and the line, counted from 1. The field is that of the first bad field, counted from
-// 1, where the refusal is `Field`, and else 0.
+// 1, where the refusal is `Field`, and else 0: the line that `shade` prints of a fault has a number there in each case.
 #[derive(Clone, Copy, PartialEq, Eq)]
 pub struct Fault {
     pub refusal: Refusal,
@@ -68,7 +70,7 @@ impl Fault {
     {
         Fault {
             refusal,
-            part: Part::of(refusal),
+            part: refusal.into(),
             line,
             field,
         }

@@ -5,20 +5,13 @@ ghost use Rattle.text.specs.Pieces.{pieces};
 
 use crate::reader::{Line, Part, Parts, Reader};
 
-// The first place from `from` on that holds `b`, or the length where none does.
-fn find(text: &[u8], from: usize, b: u8) -> usize
-    requires { from ≤ length text.now }
-    ensures above { from ≤ result }
+// The first place that holds `b`, or the length where none does.
+fn find(text: &[u8], b: u8) -> usize
     ensures within { result ≤ length text.now }
-    ensures before { (k : ℕ) → from ≤ k → k < result → slice_index text.now k ≢ b }
+    ensures before { (k : ℕ) → k < result → slice_index text.now k ≢ b }
     ensures found { result < length text.now → slice_index text.now result ≡ b }
 {
-    for i in from..text.len() {
-        if text[i] == b {
-            return i;
-        }
-    }
-    text.len()
+    text.iter().position(|x| *x == b).unwrap_or(text.len())
 }
 
 impl<'a> Reader<'a> {
@@ -38,27 +31,18 @@ impl<'a> Reader<'a> {
         ensures cut { MatchOption result ((rest self.old ≡ []) × (rest self.new ≡ [])) (λ l. FirstLine (rest self.old) l.bytes.now l.ended (rest self.new)) }
         ensures number { MatchOption result (self.new.line ≡ self.old.line) (λ l. (l.number ≡ self.old.line + 1) × (self.new.line ≡ self.old.line + 1)) }
     {
-        let text = self.text;
-        let from = self.at;
-        if from >= text.len() {
+        let rest = &self.text[self.at..];
+        if rest.is_empty() {
             return None;
         }
-        let end = find(text, from, 10);
-        let number = self.line + 1;
-        self.line = number;
-        if end < text.len() {
-            self.at = end + 1;
-            return Some(Line {
-                bytes: &text[from..end],
-                number,
-                ended: true,
-            });
-        }
-        self.at = end;
+        let end = find(rest, b'\n');
+        let ended = end < rest.len();
+        self.at += end + usize::from(ended);
+        self.line += 1;
         Some(Line {
-            bytes: &text[from..end],
-            number,
-            ended: false,
+            bytes: &rest[..end],
+            number: self.line,
+            ended,
         })
     }
 }
@@ -83,17 +67,13 @@ impl<'a> Parts<'a> {
         ensures cut { MatchOption result ((left self.old ≡ []) × (left self.new ≡ [])) (λ p. left self.old ≡ p.bytes.now ∷ left self.new) }
         ensures number { IfSome result (λ p. (p.number ≡ self.old.number) × (self.new.number ≡ self.old.number + 1)) }
     {
-        let line = self.bytes;
-        let from = self.at;
-        if from > line.len() {
-            return None;
-        }
-        let end = find(line, from, 9);
+        let rest = self.bytes.get(self.at..)?;
+        let end = find(rest, b'\t');
         let number = self.number;
-        self.number = number + 1;
-        self.at = end + 1;
+        self.at += end + 1;
+        self.number += 1;
         Some(Part {
-            bytes: &line[from..end],
+            bytes: &rest[..end],
             number,
         })
     }

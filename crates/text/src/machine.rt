@@ -45,7 +45,7 @@ impl Stage {
                 | Stage::Casts,
                 Head::Cast,
             ) => Some(Stage::Casts),
-            (_, _) => None,
+            _ => None,
         }
     }
 }

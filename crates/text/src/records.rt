@@ -1,5 +1,5 @@
 // A line's head, and its fields by their names.
-ghost use Rattle.std.specs.Prelude.{◌≡◌, ℕ, List, [], ◌∷◌, length, MatchOption, ◌≢◌};
+ghost use Rattle.std.specs.Prelude.{◌≡◌, ℕ, List, [], ◌∷◌, ◌++◌, ◌<◌, length, MatchOption, ◌≢◌};
 ghost use Rattle.text.specs.Heads.{word, shape, head_of, fields};
 ghost use Rattle.text.specs.Text.{left};
 ghost use Rattle.text.specs.declared.head.Head.{Head as AnyHead};
@@ -23,68 +23,58 @@ pub fn head_of(text: &[u8]) -> Option<Head>
     }
 }
 
-// The only part that is left, or none where there is none or another.
-fn one<'a>(parts: &mut Parts<'a>) -> Option<&'a [u8]>
-    ensures { MatchOption result (length (left parts.old) ≢ 1) (λ a. left parts.old ≡ a.now ∷ []) }
+// The next field, or none past the last.
+fn field<'a>(parts: &mut Parts<'a>) -> Option<&'a [u8]>
+    ensures { MatchOption result (left parts.old ≡ []) (λ f. left parts.old ≡ f.now ∷ left parts.new) }
 {
-    let a = parts.next_part()?;
-    match parts.next_part() {
-        None => Some(a.bytes),
-        Some(_) => None,
+    parts.next_part().map(|part| part.bytes)
+}
+
+// The record of a line with this head and the next fields, or none where there are too few.
+fn next_record<'a>(head: Head, parts: &mut Parts<'a>) -> Option<Record<'a>>
+    ensures { MatchOption result (length (left parts.old) < length (shape head)) (λ a. (head_of a ≡ head) × (length (fields a) ≡ length (shape head)) × (left parts.old ≡ fields a ++ left parts.new)) }
+{
+    match head {
+        Head::Plan => Some(Record::Plan {
+            width: field(parts)?,
+            rows: field(parts)?,
+            kind: field(parts)?,
+        }),
+        Head::Ground => Some(Record::Ground {
+            height: field(parts)?,
+        }),
+        Head::Frame => Some(Record::Frame {
+            c0: field(parts)?,
+            r0: field(parts)?,
+            c1: field(parts)?,
+            r1: field(parts)?,
+        }),
+        Head::Corner => Some(Record::Corner {
+            x: field(parts)?,
+            y: field(parts)?,
+            z: field(parts)?,
+        }),
+        Head::Face => Some(Record::Face {
+            a: field(parts)?,
+            b: field(parts)?,
+            c: field(parts)?,
+        }),
+        Head::Lay => Some(Record::Lay {
+            what: field(parts)?,
+        }),
+        Head::Cast => Some(Record::Cast {
+            what: field(parts)?,
+            dx: field(parts)?,
+            dy: field(parts)?,
+            dz: field(parts)?,
+        }),
     }
-}
-
-// The three parts that are left, or none where there are fewer or more.
-fn three<'a>(parts: &mut Parts<'a>) -> Option<(&'a [u8], &'a [u8], &'a [u8])>
-    ensures { MatchOption result (length (left parts.old) ≢ 3) (λ a. left parts.old ≡ a.0.now ∷ a.1.now ∷ a.2.now ∷ []) }
-{
-    let a = parts.next_part()?;
-    let b = parts.next_part()?;
-    let c = one(parts)?;
-    Some((a.bytes, b.bytes, c))
-}
-
-// The four parts that are left, or none where there are fewer or more.
-fn four<'a>(parts: &mut Parts<'a>) -> Option<(&'a [u8], &'a [u8], &'a [u8], &'a [u8])>
-    ensures { MatchOption result (length (left parts.old) ≢ 4) (λ a. left parts.old ≡ a.0.now ∷ a.1.now ∷ a.2.now ∷ a.3.now ∷ []) }
-{
-    let a = parts.next_part()?;
-    let (b, c, d) = three(parts)?;
-    Some((a.bytes, b, c, d))
 }
 
 // The record of a line with this head whose fields are left, or none where the number of fields is another.
 pub fn record_of<'a>(head: Head, parts: &mut Parts<'a>) -> Option<Record<'a>>
     ensures { MatchOption result (length (left parts.old) ≢ length (shape head)) (λ a. (head_of a ≡ head) × (left parts.old ≡ fields a)) }
 {
-    match head {
-        Head::Plan => {
-            let (width, rows, kind) = three(parts)?;
-            Some(Record::Plan { width, rows, kind })
-        }
-        Head::Ground => {
-            let height = one(parts)?;
-            Some(Record::Ground { height })
-        }
-        Head::Frame => {
-            let (c0, r0, c1, r1) = four(parts)?;
-            Some(Record::Frame { c0, r0, c1, r1 })
-        }
-        Head::Corner => {
-            let (x, y, z) = three(parts)?;
-            Some(Record::Corner { x, y, z })
-        }
-        Head::Face => {
-            let (a, b, c) = three(parts)?;
-            Some(Record::Face { a, b, c })
-        }
-        Head::Lay => {
-            let what = one(parts)?;
-            Some(Record::Lay { what })
-        }
-        Head::Cast => {
-            let (what, dx, dy, dz) = four(parts)?;
-            Some(Record::Cast { what, dx, dy, dz })
-        }
-    }
+    let record = next_record(head, parts)?;
+    field(parts).is_none().then_some(record)
 }
