@@ -2,20 +2,9 @@ use Rattle.std.proofs.Common.{◌≡◌, ap, ◌∙◌, rules}
 use Rattle.geometry.specs.Machine.{vector_of, sign_is}
 use Rattle.volumes.specs.Machine.{face_of, sample_of, cover_by}
 use Rattle.volumes.specs.Wrapped.{wrapped_side_sign}
-use Rattle.volumes.proofs.Computed.{cover_of_three, cover_of_four}
+use Rattle.volumes.proofs.Computed.{cover_of_four}
 use Rattle.volumes.proofs.Exact.{signs_exact}
 use Rattle.volumes.proofs.face.Face.covers.Goals as goal
-
-pub returns-in-None : goal.returns-in-None
-returns-in-None c =
-    let f = c.args.self.now in
-    let p = sample_of c.args.sample in
-    let a : sign_is c.side_sign-first.result ≡ wrapped_side_sign (vector_of f.first) (vector_of f.second) p = search rules in
-    let b : sign_is c.side_sign-second.result ≡ wrapped_side_sign (vector_of f.second) (vector_of f.third) p = search rules in
-    let d : sign_is c.side_sign.result ≡ wrapped_side_sign (vector_of f.third) (vector_of f.first) p = search rules in
-    let w = cover_of_three f p (sign_is c.side_sign-first.result) (sign_is c.side_sign-second.result) c.of.result c.along-cover.result a b c.of.ensures c.along-cover.ensures
-    (sign_is c.side_sign.result) c.along.result c.in-None.is d c.along.ensures in
-    record { wrapped = w; exact = λ n s. w ∙ ap cover_by (signs_exact (face_of f) p n s) }
 
 pub returns-in-Some : goal.returns-in-Some
 returns-in-Some c =
