@@ -7,10 +7,6 @@ use Rattle.geometry.specs.Vectors.{V3}
 use Rattle.geometry.specs.Limits.{between, in_limits, in_receiver_limits, in_run_limits, InLimits, InReceiverLimits, LawfulRun}
 use Rattle.geometry.specs.Answers.{in_strike_limits}
 
--- a number lies between two if its negative lies between theirs
-pub between_turned : (low high a : ℤ) → between (neg_ℤ high) (neg_ℤ low) (neg_ℤ a) ≡ between low high a
-between_turned low high a = grind (arith, ints)
-
 pub between_low : (low high a : ℤ) → between low high a ≡ true → low ≤ℤ a
 between_low low high a h = let p = and_parts (le_z low a) (le_z a high) h in grind (arith, ints)
 

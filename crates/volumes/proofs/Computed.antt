@@ -156,20 +156,10 @@ module _ (f : Face) (p : Sample) (k : Cover) (is : k ≡ cover_by (wrapped_side_
       weighed false true never = refl
       weighed false false never = refl
 
-pub counted_above : (f : Face) (p : Sample) (z : ℤ) (b : Bool) → b ≡ false → b ≡ wrapped_below f p z → pos 0 ≡ wrapped_contribution f p z
-counted_above f p z b t e = ap (λ (x : Bool). tally x (all_positive (wrapped_side_signs f p)) (all_negative (wrapped_side_signs f p))) (sym t ∙ e)
-
 -- ---- the cover of a face of three or four corners
 module _ (f : code.Face) (p : Sample) (a b : Sign) (ka kb : Cover)
     (ea : a ≡ wrapped_side_sign (vector_of f.first) (vector_of f.second) p) (eb : b ≡ wrapped_side_sign (vector_of f.second) (vector_of f.third) p)
     (ia : ka ≡ cover_by (a ∷ [])) (ib : kb ≡ cover_along ka b) where
-  pub cover_of_three : (c : Sign) (kc : Cover) → f.fourth ≡ None → c ≡ wrapped_side_sign (vector_of f.third) (vector_of f.first) p → kc ≡ cover_along kb c
-      → kc ≡ cover_by (wrapped_side_signs (face_of f) p)
-  cover_of_three c kc none ec ic =
-      ic ∙ ap (λ (k : Cover). cover_along k c) (ib ∙ ap (λ (k : Cover). cover_along k b) ia) ∙ three_sides a b c
-      ∙ (λ i. cover_by (ea i ∷ eb i ∷ ec i ∷ []))
-      ∙ ap (λ (o : Option (List ℤ)). cover_by (wrapped_side_signs (face_of record { first = f.first; second = f.second; third = f.third; fourth = o; normal = f.normal }) p)) (sym none)
-
   pub cover_of_four : (v : List ℤ) (c d : Sign) (kc kd : Cover) → f.fourth ≡ Some v → c ≡ wrapped_side_sign (vector_of f.third) (vector_of v) p
       → d ≡ wrapped_side_sign (vector_of v) (vector_of f.first) p → kc ≡ cover_along kb c → kd ≡ cover_along kc d → kd ≡ cover_by (wrapped_side_signs (face_of f) p)
   cover_of_four v c d kc kd some ec ed ic id =
