@@ -1,6 +1,6 @@
 // Cases of `strike`.
-use crate::words::{Numbers, refused};
-use geometry::facet::Facet;
+use crate::words::{Numbers, Refused, told};
+use geometry::strike;
 use std::alloc::Global;
 
 // strike, then three numbers each of the triangle's corners, the receiver and the run
@@ -10,9 +10,7 @@ pub(crate) fn strike(heap: Global, numbers: &mut Numbers) -> anyhow::Result<Stri
     let c = numbers.point()?;
     let p = numbers.point()?;
     let run = numbers.run()?;
-    match (Facet { a, b, c }).strike(run, p) {
-        Ok(true) => Ok(String::from_str(heap, "yes")?),
-        Ok(false) => Ok(String::from_str(heap, "no")?),
-        Err(refusal) => refused(heap, refusal),
-    }
+    let struck = strike::strike(run, a, b, c, p);
+    let answer = struck.map(|struck| if struck { "yes" } else { "no" });
+    told(heap, answer.map_err(Refused))
 }
