@@ -27,6 +27,7 @@ pub(crate) fn show_face(rt: &HostRuntime, run: Run, face: Facet) -> anyhow::Resu
     Ok(())
 }
 
+// The character of a sign. Text by a match is plainer than a type of its own for Display, which Sign cannot get here.
 fn letter(side: Sign) -> &'static str {
     match side {
         Sign::Negative => "-",
