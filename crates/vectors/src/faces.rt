@@ -5,7 +5,7 @@ use geometry::units::Step;
 use std::alloc::Global;
 use volumes::cover::{Cover, Sample};
 use volumes::face::Face;
-use volumes::{cover, face, height, reach};
+use volumes::reach;
 
 fn sample(numbers: &mut Numbers) -> anyhow::Result<Sample> {
     Ok(Sample {
@@ -17,13 +17,13 @@ fn sample(numbers: &mut Numbers) -> anyhow::Result<Sample> {
 // The face's normal, how it covers the sample, and what it raises it to.
 fn told(heap: Global, face: &Face, sample: Sample) -> anyhow::Result<String> {
     let [x, y, z] = face.normal;
-    let way = match cover::covers(face, sample) {
+    let way = match face.covers(sample) {
         Cover::Up => "up",
         Cover::Down => "down",
         Cover::Beside => "beside",
     };
     let mut text = format!(in heap; "{x} {y} {z} {way}")?;
-    if let Some(Step(top)) = height::raised_to(face, sample) {
+    if let Some(Step(top)) = face.raised_to(sample) {
         write!(text, " {top}")?;
     }
     Ok(text)
@@ -31,11 +31,8 @@ fn told(heap: Global, face: &Face, sample: Sample) -> anyhow::Result<String> {
 
 // floor, then the three corners of a triangle and a sample
 pub(crate) fn floor(heap: Global, numbers: &mut Numbers) -> anyhow::Result<String> {
-    let a = numbers.point()?;
-    let b = numbers.point()?;
-    let c = numbers.point()?;
-    let at = sample(numbers)?;
-    told(heap, &face::near_cap(a, b, c), at)
+    let face = Face::near_cap(numbers.facet()?);
+    told(heap, &face, sample(numbers)?)
 }
 
 // wall, then the two ends of a side, a run and a sample
@@ -45,5 +42,5 @@ pub(crate) fn wall(heap: Global, numbers: &mut Numbers) -> anyhow::Result<String
     let run = numbers.run()?;
     let at = sample(numbers)?;
     let extent = reach::extent(run).map_err(|_| anyhow!("a run outside its limits"))?;
-    told(heap, &face::wall(u, v, extent), at)
+    told(heap, &Face::wall(u, v, extent), at)
 }

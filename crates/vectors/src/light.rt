@@ -1,5 +1,5 @@
 // Cases of `turn`, and of how far a run reaches.
-use crate::words::{Numbers, Refused, Spaced, told};
+use crate::words::{Numbers, Spaced, told};
 use geometry::light::{Bearing, Run};
 use geometry::refusal::Refusal;
 use std::alloc::Global;
@@ -12,8 +12,7 @@ pub(crate) fn turn(heap: Global, numbers: &mut Numbers) -> anyhow::Result<String
         dy: numbers.number()?,
         dz: numbers.number()?,
     };
-    let turned = bearing.turn().map(|run| Spaced(run.vector()));
-    told(heap, turned.map_err(Refused))
+    told(heap, bearing.turn().map(|run| Spaced(run.into())))
 }
 
 // How many runs it is, and the extent.
@@ -24,5 +23,5 @@ fn reached(run: Run) -> Result<Spaced<4>, Refusal> {
 
 // reach dx dy dz: how many runs, and the extent
 pub(crate) fn reach(heap: Global, numbers: &mut Numbers) -> anyhow::Result<String> {
-    told(heap, reached(numbers.run()?).map_err(Refused))
+    told(heap, reached(numbers.run()?))
 }

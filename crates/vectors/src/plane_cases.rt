@@ -1,5 +1,5 @@
 // Cases of planes: calls on a linear or a packed plane, through a frame or not.
-use crate::words::{Numbers, Refused, told};
+use crate::words::{Numbers, told};
 use anyhow::{Context, bail};
 use geometry::units::{Column, Row, Step};
 use planes::frame::{Cutout, Frame};
@@ -160,5 +160,5 @@ pub(crate) fn check(heap: Global, numbers: &mut Numbers) -> anyhow::Result<Strin
         let counts = vec![in heap; 0u16; second]?;
         LinearPlane::check(heights.as_slice(), counts.as_slice(), width, rows)
     };
-    told(heap, answer.and(Ok("fit")).map_err(Refused))
+    told(heap, answer.and(Ok("fit")))
 }

@@ -1,5 +1,5 @@
 // Cases of matching sides, loading tables and pairs.
-use crate::words::{Numbers, Refused, told};
+use crate::words::{Numbers, told};
 use anyhow::Context;
 use geometry::units::Point;
 use sheets::sheets::Sheets;
@@ -19,7 +19,6 @@ struct Fault(Misfit);
 impl Display for Fault {
     fn fmt<W: fmt::Write>(&self, f: &mut fmt::Formatter<W>) -> fmt::Result {
         let Fault(Misfit { refusal, site }) = *self;
-        let refusal = Refused(refusal);
         match site {
             Site::Nowhere => write!(f, "{refusal}"),
             Site::Corner(at) => write!(f, "{refusal} corner {at}"),
@@ -178,5 +177,5 @@ pub(crate) fn sizes(heap: Global, numbers: &mut Numbers) -> anyhow::Result<Strin
     let first = sheets(numbers)?;
     let second = sheets(numbers)?;
     let answer = Pair::check(&first, &second);
-    told(heap, answer.and(Ok("fit")).map_err(Refused))
+    told(heap, answer.and(Ok("fit")))
 }

@@ -1,7 +1,7 @@
 // What a line gives a call: its numbers, taken one after another, and how an answer is written.
 use anyhow::{Context, bail};
+use geometry::facet::Facet;
 use geometry::light::Run;
-use geometry::refusal::Refusal;
 use geometry::units::Point;
 use std::alloc::Global;
 use std::fmt;
@@ -43,6 +43,14 @@ impl Numbers {
         Ok(Point::new(self.number()?, self.number()?, self.number()?))
     }
 
+    pub(crate) fn facet(&mut self) -> anyhow::Result<Facet> {
+        Ok(Facet {
+            a: self.point()?,
+            b: self.point()?,
+            c: self.point()?,
+        })
+    }
+
     pub(crate) fn run(&mut self) -> anyhow::Result<Run> {
         Ok(Run {
             dx: self.number()?,
@@ -65,16 +73,6 @@ impl Numbers {
             list.push(take(self)?)?;
         }
         Ok(list)
-    }
-}
-
-#[derive(Drop)]
-pub(crate) struct Refused(pub(crate) Refusal);
-
-impl Display for Refused {
-    fn fmt<W: fmt::Write>(&self, f: &mut fmt::Formatter<W>) -> fmt::Result {
-        let number = self.0.number();
-        write!(f, "refused {number}")
     }
 }
 
