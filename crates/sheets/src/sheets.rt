@@ -15,7 +15,7 @@ pub struct Sheets {
 }
 
 impl Sheets {
-    // The solid of these counts; none where there is no such solid.
+    // The solid of these counts; none where there is no such solid. A closure for `then` would have to require the two limits again.
     pub fn new(corners: usize, pairs: usize) -> Option<Sheets>
         ensures { MatchOption result (corners ≤ 32768 → pairs ≤ 16384 * min 1 (corners / 3) → ⊥) (λ s. (s.corners ≡ corners) × (s.pairs ≡ pairs)) }
     {
