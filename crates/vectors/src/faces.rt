@@ -15,7 +15,7 @@ fn sample(numbers: &mut Numbers) -> anyhow::Result<Sample> {
 }
 
 // The face's normal, how it covers the sample, and what it raises it to.
-fn told(heap: Global, face: &Face, sample: Sample) -> anyhow::Result<String> {
+fn shown(heap: Global, face: &Face, sample: Sample) -> anyhow::Result<String> {
     let [x, y, z] = face.normal;
     let way = match face.covers(sample) {
         Cover::Up => "up",
@@ -32,7 +32,7 @@ fn told(heap: Global, face: &Face, sample: Sample) -> anyhow::Result<String> {
 // floor, then the three corners of a triangle and a sample
 pub(crate) fn floor(heap: Global, numbers: &mut Numbers) -> anyhow::Result<String> {
     let face = Face::near_cap(numbers.facet()?);
-    told(heap, &face, sample(numbers)?)
+    shown(heap, &face, sample(numbers)?)
 }
 
 // wall, then the two ends of a side, a run and a sample
@@ -42,5 +42,5 @@ pub(crate) fn wall(heap: Global, numbers: &mut Numbers) -> anyhow::Result<String
     let run = numbers.run()?;
     let at = sample(numbers)?;
     let extent = reach::extent(run).map_err(|_| anyhow!("a run outside its limits"))?;
-    told(heap, &Face::wall(u, v, extent), at)
+    shown(heap, &Face::wall(u, v, extent), at)
 }
