@@ -15,7 +15,7 @@ pub struct Sheets {
 }
 
 impl Sheets {
-    // The solid of these counts; none where there is no such solid.
+    // The solid of these counts; none where there is no such solid. A closure for `then` would have to require the two limits again.
     pub fn new(corners: usize, pairs: usize) -> Option<Sheets>
         ensures { MatchOption result (corners ≤ 32768 → pairs ≤ 16384 * min 1 (corners / 3) → ⊥) (λ s. (s.corners ≡ corners) × (s.pairs ≡ pairs)) }
     {
@@ -41,29 +41,20 @@ impl Solid for Sheets {
     }
 
     fn corner(&self, number: usize) -> Option<Point> {
-        if number < self.corners {
-            Some(Point::new(0, 0, 0))
-        } else {
-            None
-        }
+        (number < self.corners).then(|| Point::new(0, 0, 0))
     }
 
     fn triangle(&self, number: usize) -> Option<Triangle> {
-        if number >= 2 * self.pairs {
-            return None;
-        }
-        if number % 2 == 0 {
-            Some(Triangle { a: 0, b: 1, c: 2 })
-        } else {
-            Some(Triangle { a: 0, b: 2, c: 1 })
-        }
+        (number < self.triangles()).then(|| {
+            if number % 2 == 0 {
+                Triangle { a: 0, b: 1, c: 2 }
+            } else {
+                Triangle { a: 0, b: 2, c: 1 }
+            }
+        })
     }
 
     fn partner(&self, place: usize) -> Option<usize> {
-        if place < 3 * (2 * self.pairs) {
-            Some(6 * (place / 6) + (5 - place % 6))
-        } else {
-            None
-        }
+        (place < 3 * self.triangles()).then(|| 6 * (place / 6) + (5 - place % 6))
     }
 }

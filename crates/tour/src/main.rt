@@ -53,10 +53,11 @@ fn tour(rt: &HostRuntime) -> anyhow::Result<()> {
         "Turned round, that is the run of the light: {} {} {}.",
         run.dx, run.dy, run.dz
     )?;
-    for face in &faces() {
-        shade::show_face(rt, run, *face)?;
+    let faces = faces();
+    for face in faces {
+        shade::show_face(rt, run, face)?;
     }
-    shade::show_points(rt, run, &faces())?;
+    shade::show_points(rt, run, &faces)?;
     roof::tour(rt)
 }
 

@@ -50,6 +50,7 @@ const TRIANGLES: [Triangle; 12] = [
     Triangle { a: 3, b: 4, c: 7 },
 ];
 
+// The character of a mark. Text by a match is plainer than a type of its own for Display, which Mark cannot get here.
 fn letter(mark: Mark) -> &'static str {
     match mark {
         Mark::Shaded => "#",
@@ -60,13 +61,10 @@ fn letter(mark: Mark) -> &'static str {
 
 // The plan as characters, a row to a line.
 fn show_plan<P: Plane>(rt: &HostRuntime, survey: &Casting, plane: &P) -> anyhow::Result<()> {
-    for j in 0..P::rows(plane) {
-        for i in 0..P::width(plane) {
-            let text = match look(survey, plane, Column(i), Row(j)) {
-                Ok((mark, _count, _total)) => letter(mark),
-                Err(_) => " ",
-            };
-            rt.print(text)?;
+    for j in 0..plane.rows() {
+        for i in 0..plane.width() {
+            let seen = look(survey, plane, Column(i), Row(j));
+            rt.print(seen.map_or(" ", |(mark, _, _)| letter(mark)))?;
         }
         rt.println("")?;
     }
@@ -78,10 +76,11 @@ fn show_pixel<P: Plane>(
     rt: &HostRuntime,
     survey: &Casting,
     plane: &P,
-    i: u16,
-    j: u16,
+    column: Column,
+    row: Row,
 ) -> anyhow::Result<()> {
-    match look(survey, plane, Column(i), Row(j)) {
+    let (Column(i), Row(j)) = (column, row);
+    match look(survey, plane, column, row) {
         Ok((mark, count, total)) => {
             let text = letter(mark);
             println!(rt; "look at column {i}, row {j}: {text}, count {count}, total {total}")?;
@@ -128,38 +127,9 @@ fn survey<P: Plane, S: Solid>(rt: &HostRuntime, plane: &mut P, solid: &S) -> any
     };
     let second = cast(&mut casting, plane, solid, level);
     tell(rt, "cast along 1 0 0, which never falls", second)?;
-    show_pixel(rt, &casting, plane, 4, 3)?;
-    show_pixel(rt, &casting, plane, 12, 8)?;
-    show_pixel(rt, &casting, plane, 16, 0)
-}
-
-// The survey on a linear plane over the two lists.
-fn on_lists<'a, S: Solid>(
-    rt: &HostRuntime,
-    heights: &'a mut [i32],
-    counts: &'a mut [u16],
-    solid: &S,
-) -> anyhow::Result<()> {
-    let mut plane = LinearPlane::new(heights, counts, WIDTH, ROWS);
-    survey(rt, &mut plane, solid)
-}
-
-// The survey of the solid in the tables.
-fn with_tables<'a>(
-    rt: &HostRuntime,
-    corners: &'a [Point],
-    triangles: &'a [Triangle],
-    partners: &'a [u32],
-) -> anyhow::Result<()> {
-    let mut solid = TableSolid::empty();
-    if solid.load(corners, triangles, partners).is_err() {
-        println!(rt; "load: refused")?;
-        return Ok(());
-    }
-    println!(rt; "load: a solid of {} triangles", solid.triangles())?;
-    let mut heights = [0i32; WIDTH * ROWS];
-    let mut counts = [0u16; WIDTH * ROWS];
-    on_lists(rt, &mut heights, &mut counts, &solid)
+    show_pixel(rt, &casting, plane, Column(4), Row(3))?;
+    show_pixel(rt, &casting, plane, Column(12), Row(8))?;
+    show_pixel(rt, &casting, plane, Column(16), Row(0))
 }
 
 pub(crate) fn tour(rt: &HostRuntime) -> anyhow::Result<()> {
@@ -171,5 +141,14 @@ pub(crate) fn tour(rt: &HostRuntime) -> anyhow::Result<()> {
         return Ok(());
     }
     println!(rt; "match: each side has its partner")?;
-    with_tables(rt, &corners, &TRIANGLES, &partners)
+    let mut solid = TableSolid::empty();
+    if solid.load(&corners, &TRIANGLES, &partners).is_err() {
+        println!(rt; "load: refused")?;
+        return Ok(());
+    }
+    println!(rt; "load: a solid of {} triangles", solid.triangles())?;
+    let mut heights = [0i32; WIDTH * ROWS];
+    let mut counts = [0u16; WIDTH * ROWS];
+    let mut plane = LinearPlane::new(&mut heights, &mut counts, WIDTH, ROWS);
+    survey(rt, &mut plane, &solid)
 }

@@ -14,9 +14,9 @@ fn show_vector(rt: &HostRuntime, name: &str, v: Vector) -> anyhow::Result<()> {
 // A face's corners and normal, and whether it is turned to the light.
 pub(crate) fn show_face(rt: &HostRuntime, run: Run, face: Facet) -> anyhow::Result<()> {
     println!(rt; "A face:")?;
-    show_vector(rt, "corner", face.a.into())?;
-    show_vector(rt, "corner", face.b.into())?;
-    show_vector(rt, "corner", face.c.into())?;
+    for corner in [face.a, face.b, face.c] {
+        show_vector(rt, "corner", corner.into())?;
+    }
     show_vector(rt, "normal", face.normal())?;
     let turned = if face.is_sunward(run) {
         "sunward"
@@ -27,6 +27,7 @@ pub(crate) fn show_face(rt: &HostRuntime, run: Run, face: Facet) -> anyhow::Resu
     Ok(())
 }
 
+// The character of a sign. Text by a match is plainer than a type of its own for Display, which Sign cannot get here.
 fn letter(side: Sign) -> &'static str {
     match side {
         Sign::Negative => "-",

@@ -1,7 +1,6 @@
 // Cases of faces at a sample: how they cover it, and what they raise it to.
 use crate::words::Numbers;
 use anyhow::anyhow;
-use geometry::facet::Facet;
 use geometry::units::Step;
 use std::alloc::Global;
 use volumes::cover::{Cover, Sample};
@@ -9,35 +8,31 @@ use volumes::face::Face;
 use volumes::reach;
 
 fn sample(numbers: &mut Numbers) -> anyhow::Result<Sample> {
-    let x = Step(numbers.number()?);
-    let y = Step(numbers.number()?);
-    Ok(Sample { x, y })
+    Ok(Sample {
+        x: Step(numbers.number()?),
+        y: Step(numbers.number()?),
+    })
 }
 
 // The face's normal, how it covers the sample, and what it raises it to.
-fn told(heap: Global, face: &Face, sample: Sample) -> anyhow::Result<String> {
+fn shown(heap: Global, face: &Face, sample: Sample) -> anyhow::Result<String> {
     let [x, y, z] = face.normal;
     let way = match face.covers(sample) {
         Cover::Up => "up",
         Cover::Down => "down",
         Cover::Beside => "beside",
     };
-    match face.raised_to(sample) {
-        Some(top) => {
-            let top = top.0;
-            Ok(format!(in heap; "{x} {y} {z} {way} {top}")?)
-        }
-        None => Ok(format!(in heap; "{x} {y} {z} {way}")?),
+    let mut text = format!(in heap; "{x} {y} {z} {way}")?;
+    if let Some(Step(top)) = face.raised_to(sample) {
+        write!(text, " {top}")?;
     }
+    Ok(text)
 }
 
 // floor, then the three corners of a triangle and a sample
 pub(crate) fn floor(heap: Global, numbers: &mut Numbers) -> anyhow::Result<String> {
-    let a = numbers.point()?;
-    let b = numbers.point()?;
-    let c = numbers.point()?;
-    let at = sample(numbers)?;
-    told(heap, &Face::near_cap(Facet { a, b, c }), at)
+    let face = Face::near_cap(numbers.facet()?);
+    shown(heap, &face, sample(numbers)?)
 }
 
 // wall, then the two ends of a side, a run and a sample
@@ -46,8 +41,6 @@ pub(crate) fn wall(heap: Global, numbers: &mut Numbers) -> anyhow::Result<String
     let v = numbers.point()?;
     let run = numbers.run()?;
     let at = sample(numbers)?;
-    match reach::extent(run) {
-        Ok(extent) => told(heap, &Face::wall(u, v, extent), at),
-        Err(_) => Err(anyhow!("a run outside its limits")),
-    }
+    let extent = reach::extent(run).map_err(|_| anyhow!("a run outside its limits"))?;
+    shown(heap, &Face::wall(u, v, extent), at)
 }

@@ -1,35 +1,27 @@
 // Cases of `turn`, and of how far a run reaches.
-use crate::words::{Numbers, refused};
-use geometry::light::Bearing;
+use crate::words::{Numbers, Spaced, told};
+use geometry::light::{Bearing, Run};
+use geometry::refusal::Refusal;
 use std::alloc::Global;
 use volumes::reach;
 
 // turn dx dy dz
 pub(crate) fn turn(heap: Global, numbers: &mut Numbers) -> anyhow::Result<String> {
-    let dx = numbers.number()?;
-    let dy = numbers.number()?;
-    let dz = numbers.number()?;
-    match (Bearing { dx, dy, dz }).turn() {
-        Ok(run) => {
-            let (dx, dy, dz) = (run.dx, run.dy, run.dz);
-            Ok(format!(in heap; "{dx} {dy} {dz}")?)
-        }
-        Err(refusal) => refused(heap, refusal),
-    }
+    let bearing = Bearing {
+        dx: numbers.number()?,
+        dy: numbers.number()?,
+        dz: numbers.number()?,
+    };
+    told(heap, bearing.turn().map(|run| Spaced(run.into())))
+}
+
+// How many runs it is, and the extent.
+fn reached(run: Run) -> Result<Spaced<4>, Refusal> {
+    let [x, y, z] = reach::extent(run)?;
+    Ok(Spaced([reach::reach(run)?, x, y, z]))
 }
 
 // reach dx dy dz: how many runs, and the extent
 pub(crate) fn reach(heap: Global, numbers: &mut Numbers) -> anyhow::Result<String> {
-    let run = numbers.run()?;
-    let times = match reach::reach(run) {
-        Ok(times) => times,
-        Err(refusal) => return refused(heap, refusal),
-    };
-    match reach::extent(run) {
-        Ok(extent) => {
-            let [x, y, z] = extent;
-            Ok(format!(in heap; "{times} {x} {y} {z}")?)
-        }
-        Err(refusal) => refused(heap, refusal),
-    }
+    told(heap, reached(numbers.run()?))
 }

@@ -9,15 +9,16 @@ mod strikes;
 mod tables;
 mod words;
 
-use anyhow::anyhow;
+use anyhow::{Context, bail};
 use std::alloc::Global;
 use std::io::{BufRead, BufReader};
 use words::Numbers;
 
-// What the call in a line answers.
+// What the call in a line answers. A match is the plainest table of calls: a list of function pointers by name would need a search.
 fn answer(heap: Global, line: &str) -> anyhow::Result<String> {
-    let (name, list) = words::parse(heap, line)?;
-    let mut numbers = Numbers::of(list.as_slice());
+    let mut words = line.split_whitespace();
+    let name = words.next().context("an empty line")?;
+    let mut numbers = Numbers::parse(heap, words)?;
     match name {
         "turn" => light::turn(heap, &mut numbers),
         "reach" => light::reach(heap, &mut numbers),
@@ -32,16 +33,14 @@ fn answer(heap: Global, line: &str) -> anyhow::Result<String> {
         "line" => plane_cases::linear(heap, &mut numbers),
         "pack" => plane_cases::packed(heap, &mut numbers),
         "check" => plane_cases::check(heap, &mut numbers),
-        _ => Err(anyhow!("an unknown call")),
+        _ => bail!("an unknown call"),
     }
 }
 
 fn run(rt: &HostRuntime) -> anyhow::Result<()> {
     let heap = rt.alloc();
     for line in BufReader::new(heap, rt.stdin())?.lines(heap) {
-        let line = line?;
-        let told = answer(heap, line.as_str())?;
-        rt.println(told.as_str())?;
+        rt.println(answer(heap, line?.as_str())?)?;
     }
     Ok(())
 }

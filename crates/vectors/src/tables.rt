@@ -1,6 +1,6 @@
 // Cases of matching sides, loading tables and pairs.
-use crate::words::{Numbers, refused};
-use anyhow::anyhow;
+use crate::words::{Numbers, told};
+use anyhow::Context;
 use geometry::units::Point;
 use sheets::sheets::Sheets;
 use solids::matching::match_sides;
@@ -9,144 +9,151 @@ use solids::pair::Pair;
 use solids::solid::{Solid, Triangle};
 use solids::table::TableSolid;
 use std::alloc::Global;
+use std::fmt;
+use std::fmt::Display;
 
-fn points(heap: Global, numbers: &mut Numbers, count: usize) -> anyhow::Result<Vec<Point>> {
-    let mut list = Vec::new(heap);
-    for _ in 0..count {
-        list.push(numbers.point()?)?;
+// A misfit as it is written: its refusal, and the part that it is about.
+#[derive(Drop)]
+struct Fault(Misfit);
+
+impl Display for Fault {
+    fn fmt<W: fmt::Write>(&self, f: &mut fmt::Formatter<W>) -> fmt::Result {
+        let Fault(Misfit { refusal, site }) = *self;
+        match site {
+            Site::Nowhere => write!(f, "{refusal}"),
+            Site::Corner(at) => write!(f, "{refusal} corner {at}"),
+            Site::Triangle(at) => write!(f, "{refusal} face {at}"),
+            Site::Place(at) => write!(f, "{refusal} place {at}"),
+            Site::Partners(at) => write!(f, "{refusal} partners {at}"),
+        }
     }
-    Ok(list)
 }
 
-fn triangles(heap: Global, numbers: &mut Numbers, count: usize) -> anyhow::Result<Vec<Triangle>> {
-    let mut list = Vec::new(heap);
-    for _ in 0..count {
-        let a = numbers.natural()?;
-        let b = numbers.natural()?;
-        let c = numbers.natural()?;
-        list.push(Triangle { a, b, c })?;
+fn triangle(numbers: &mut Numbers) -> anyhow::Result<Triangle> {
+    Ok(Triangle {
+        a: numbers.natural()?,
+        b: numbers.natural()?,
+        c: numbers.natural()?,
+    })
+}
+
+// How many corners, triangles and partners tables have.
+#[derive(Clone, Copy)]
+struct Lengths {
+    corners: usize,
+    triangles: usize,
+    partners: usize,
+}
+
+impl Lengths {
+    fn read(numbers: &mut Numbers) -> anyhow::Result<Lengths> {
+        Ok(Lengths {
+            corners: numbers.size()?,
+            triangles: numbers.size()?,
+            partners: numbers.size()?,
+        })
     }
-    Ok(list)
 }
 
-fn naturals(heap: Global, numbers: &mut Numbers, count: usize) -> anyhow::Result<Vec<u32>> {
-    let mut list = Vec::new(heap);
-    for _ in 0..count {
-        list.push(numbers.natural()?)?;
+// The three lists of a table.
+#[derive(Drop)]
+struct Tables {
+    corners: Vec<Point>,
+    triangles: Vec<Triangle>,
+    partners: Vec<u32>,
+}
+
+impl Tables {
+    // The numbers of corners, triangles and partners, then the lists, each partner as `partner` says.
+    fn read<F: FnMut(&mut Numbers) -> anyhow::Result<u32>>(
+        heap: Global,
+        numbers: &mut Numbers,
+        partner: F,
+    ) -> anyhow::Result<Tables>
+        requires { F.IsAlwaysCallable partner }
+    {
+        let lengths = Lengths::read(numbers)?;
+        Ok(Tables {
+            corners: numbers.list(heap, lengths.corners, Numbers::point)?,
+            triangles: numbers.list(heap, lengths.triangles, triangle)?,
+            partners: numbers.list(heap, lengths.partners, partner)?,
+        })
     }
-    Ok(list)
-}
 
-// A list of numbers with a space before each.
-fn listed(heap: Global, list: &[u32]) -> anyhow::Result<String> {
-    let mut text = String::new(heap);
-    for number in list {
-        text.push_str(format!(in heap; " {number}")?.as_str())?;
+    // The same numbers, one corner and one triangle, which stand for all, with a partner list to be written.
+    fn read_many(heap: Global, numbers: &mut Numbers) -> anyhow::Result<Tables> {
+        let lengths = Lengths::read(numbers)?;
+        Ok(Tables {
+            corners: vec![in heap; numbers.point()?; lengths.corners]?,
+            triangles: vec![in heap; triangle(numbers)?; lengths.triangles]?,
+            partners: vec![in heap; 9u32; lengths.partners]?,
+        })
     }
-    Ok(text)
-}
 
-fn misfit(heap: Global, misfit: Misfit) -> anyhow::Result<String> {
-    let refusal = misfit.refusal;
-    let text = match misfit.site {
-        Site::Nowhere => format!(in heap; "{refusal}")?,
-        Site::Corner(at) => format!(in heap; "{refusal} corner {at}")?,
-        Site::Triangle(at) => format!(in heap; "{refusal} face {at}")?,
-        Site::Place(at) => format!(in heap; "{refusal} place {at}")?,
-        Site::Partners(at) => format!(in heap; "{refusal} partners {at}")?,
-    };
-    Ok(text)
-}
+    // Writes the partner list, and says whether the sides match.
+    fn matched(&mut self, heap: Global) -> anyhow::Result<String> {
+        let answer = match_sides(
+            self.corners.as_slice(),
+            self.triangles.as_slice(),
+            self.partners.as_mut_slice(),
+        );
+        told(heap, answer.and(Ok("matched")).map_err(Fault))
+    }
 
-// The partner list that is written, after the answer.
-fn matched(
-    heap: Global,
-    corners: &[Point],
-    triangles: &[Triangle],
-    length: usize,
-) -> anyhow::Result<String> {
-    let mut partners = vec![in heap; 9u32; length]?;
-    let answer = match_sides(corners, triangles, partners.as_mut_slice());
-    let list = listed(heap, partners.as_slice())?;
-    let told = match answer {
-        Ok(()) => String::from_str(heap, "matched")?,
-        Err(fault) => misfit(heap, fault)?,
-    };
-    let mut text = told;
-    text.push_str(list.as_str())?;
-    Ok(text)
+    // Loads the three lists.
+    fn load<'a>(&'a self, solid: &mut TableSolid<'a>) -> Result<(), Misfit> {
+        solid.load(
+            self.corners.as_slice(),
+            self.triangles.as_slice(),
+            self.partners.as_slice(),
+        )
+    }
+
+    // The solid of the three lists; an empty one where they make none.
+    fn solid(&self) -> TableSolid<'_> {
+        let mut solid = TableSolid::empty();
+        let _ = self.load(&mut solid);
+        solid
+    }
 }
 
 // match, then the numbers of corners, triangles and places of the list, the corners and the triangles
 pub(crate) fn sides(heap: Global, numbers: &mut Numbers) -> anyhow::Result<String> {
-    let corner_count = numbers.size()?;
-    let triangle_count = numbers.size()?;
-    let length = numbers.size()?;
-    let corners = points(heap, numbers, corner_count)?;
-    let faces = triangles(heap, numbers, triangle_count)?;
-    matched(heap, corners.as_slice(), faces.as_slice(), length)
+    let mut tables = Tables::read(heap, numbers, |_| Ok(9))?;
+    let mut text = tables.matched(heap)?;
+    for partner in &tables.partners {
+        write!(text, " {partner}")?;
+    }
+    Ok(text)
 }
 
 // many, then the same three numbers, one corner and one triangle, which stand for all
 pub(crate) fn many(heap: Global, numbers: &mut Numbers) -> anyhow::Result<String> {
-    let corner_count = numbers.size()?;
-    let triangle_count = numbers.size()?;
-    let length = numbers.size()?;
-    let corner = numbers.point()?;
-    let a = numbers.natural()?;
-    let b = numbers.natural()?;
-    let c = numbers.natural()?;
-    let corners = vec![in heap; corner; corner_count]?;
-    let faces = vec![in heap; Triangle { a, b, c }; triangle_count]?;
-    let mut partners = vec![in heap; 9u32; length]?;
-    match match_sides(
-        corners.as_slice(),
-        faces.as_slice(),
-        partners.as_mut_slice(),
-    ) {
-        Ok(()) => Ok(String::from_str(heap, "matched")?),
-        Err(fault) => misfit(heap, fault),
-    }
+    Tables::read_many(heap, numbers)?.matched(heap)
 }
 
 // load, then the numbers of corners, triangles and partners, and the three lists
 pub(crate) fn load(heap: Global, numbers: &mut Numbers) -> anyhow::Result<String> {
-    let corner_count = numbers.size()?;
-    let triangle_count = numbers.size()?;
-    let length = numbers.size()?;
-    let corners = points(heap, numbers, corner_count)?;
-    let faces = triangles(heap, numbers, triangle_count)?;
-    let partners = naturals(heap, numbers, length)?;
+    let tables = Tables::read(heap, numbers, Numbers::natural)?;
     let mut solid = TableSolid::empty();
-    let told = match solid.load(corners.as_slice(), faces.as_slice(), partners.as_slice()) {
-        Ok(()) => String::from_str(heap, "loaded")?,
-        Err(fault) => misfit(heap, fault)?,
-    };
-    let mut text = told;
-    let count = solid.triangles();
-    text.push_str(format!(in heap; " triangles {count}")?.as_str())?;
+    let answer = tables.load(&mut solid);
+    let mut text = told(heap, answer.and(Ok("loaded")).map_err(Fault))?;
+    write!(text, " triangles {}", solid.triangles())?;
     Ok(text)
 }
 
 // All that a solid answers.
 fn shown<S: Solid>(heap: Global, solid: &S) -> anyhow::Result<String> {
     let mut text = String::new(heap);
-    for number in 0..solid.corners() {
-        if let Some(p) = solid.corner(number) {
-            let (x, y, z) = (p.x.0, p.y.0, p.z.0);
-            text.push_str(format!(in heap; "{x} {y} {z} ")?.as_str())?;
-        }
+    for p in (0..solid.corners()).filter_map(|number| solid.corner(number)) {
+        write!(text, "{} {} {} ", p.x.0, p.y.0, p.z.0)?;
     }
-    for number in 0..solid.triangles() {
-        if let Some(t) = solid.triangle(number) {
-            let (a, b, c) = (t.a, t.b, t.c);
-            text.push_str(format!(in heap; "{a} {b} {c} ")?.as_str())?;
-        }
+    for t in (0..solid.triangles()).filter_map(|number| solid.triangle(number)) {
+        write!(text, "{} {} {} ", t.a, t.b, t.c)?;
     }
-    for place in 0..solid.triangles().saturating_mul(3) {
-        if let Some(partner) = solid.partner(place) {
-            text.push_str(format!(in heap; "{partner} ")?.as_str())?;
-        }
+    let places = solid.triangles().saturating_mul(3);
+    for partner in (0..places).filter_map(|place| solid.partner(place)) {
+        write!(text, "{partner} ")?;
     }
     text.push_str("end")?;
     Ok(text)
@@ -154,49 +161,21 @@ fn shown<S: Solid>(heap: Global, solid: &S) -> anyhow::Result<String> {
 
 // pair, then two solids as for load
 pub(crate) fn pair(heap: Global, numbers: &mut Numbers) -> anyhow::Result<String> {
-    let corner_count = numbers.size()?;
-    let triangle_count = numbers.size()?;
-    let length = numbers.size()?;
-    let corners = points(heap, numbers, corner_count)?;
-    let faces = triangles(heap, numbers, triangle_count)?;
-    let partners = naturals(heap, numbers, length)?;
-    let mut first = TableSolid::empty();
-    let _ = first.load(corners.as_slice(), faces.as_slice(), partners.as_slice());
-    with_second(heap, numbers, first)
+    let first = Tables::read(heap, numbers, Numbers::natural)?;
+    let second = Tables::read(heap, numbers, Numbers::natural)?;
+    shown(heap, &Pair::new(first.solid(), second.solid()))
 }
 
-fn with_second(
-    heap: Global,
-    numbers: &mut Numbers,
-    first: TableSolid<'_>,
-) -> anyhow::Result<String> {
-    let corner_count = numbers.size()?;
-    let triangle_count = numbers.size()?;
-    let length = numbers.size()?;
-    let corners = points(heap, numbers, corner_count)?;
-    let faces = triangles(heap, numbers, triangle_count)?;
-    let partners = naturals(heap, numbers, length)?;
-    let mut second = TableSolid::empty();
-    let _ = second.load(corners.as_slice(), faces.as_slice(), partners.as_slice());
-    let both = Pair::new(first, second);
-    shown(heap, &both)
+fn sheets(numbers: &mut Numbers) -> anyhow::Result<Sheets> {
+    let corners = numbers.size()?;
+    let triangles = numbers.size()?;
+    Sheets::new(corners, triangles / 2).context("no solid of this size")
 }
 
 // sizes, then the numbers of corners and of triangles of two solids: whether they make a pair
 pub(crate) fn sizes(heap: Global, numbers: &mut Numbers) -> anyhow::Result<String> {
     let first = sheets(numbers)?;
     let second = sheets(numbers)?;
-    match Pair::check(&first, &second) {
-        Ok(()) => Ok(String::from_str(heap, "fit")?),
-        Err(refusal) => refused(heap, refusal),
-    }
-}
-
-fn sheets(numbers: &mut Numbers) -> anyhow::Result<Sheets> {
-    let corners = numbers.size()?;
-    let triangles = numbers.size()?;
-    match Sheets::new(corners, triangles / 2) {
-        Some(solid) => Ok(solid),
-        None => Err(anyhow!("no solid of this size")),
-    }
+    let answer = Pair::check(&first, &second);
+    told(heap, answer.and(Ok("fit")))
 }

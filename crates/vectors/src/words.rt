@@ -1,78 +1,105 @@
-// A line's parts: the name of a call, and the numbers that it is given.
-use anyhow::anyhow;
+// What a line gives a call: its numbers, taken one after another, and how an answer is written.
+use anyhow::{Context, bail};
+use geometry::facet::Facet;
 use geometry::light::Run;
-use geometry::refusal::Refusal;
 use geometry::units::Point;
 use std::alloc::Global;
+use std::fmt;
+use std::fmt::Display;
+use std::str::SplitWhitespace;
+use std::vec::IntoIter;
 
-// The first word, and the others as numbers.
-pub(crate) fn parse<'a>(heap: Global, line: &'a str) -> anyhow::Result<(&'a str, Vec<i64>)> {
-    let mut words = line.split_whitespace();
-    let Some(name) = words.next() else {
-        return Err(anyhow!("an empty line"));
-    };
-    let mut numbers = Vec::new(heap);
-    for word in words {
-        numbers.push(word.parse::<i64>()?)?;
-    }
-    Ok((name, numbers))
-}
-
-// The numbers of a line, taken one after another.
+// The numbers of a line that are still to be taken.
 #[derive(Drop)]
-pub struct Numbers<'a> {
-    list: &'a [i64],
-    at: usize,
-}
+pub struct Numbers(IntoIter<i64>);
 
-impl<'a> Numbers<'a> {
-    pub(crate) fn of(list: &'a [i64]) -> Numbers<'a> {
-        Numbers { list, at: 0 }
+impl Numbers {
+    // The words that are left of a line, each a number.
+    pub(crate) fn parse(heap: Global, words: SplitWhitespace<'_>) -> anyhow::Result<Numbers> {
+        let list: Vec<i64> = words
+            .map(|word| -> anyhow::Result<i64> { Ok(word.parse::<i64>()?) })
+            .try_collect(heap)?;
+        Ok(Numbers(list.into_iter()))
     }
 
     pub(crate) fn number(&mut self) -> anyhow::Result<i64> {
-        if self.at >= self.list.len() {
-            return Err(anyhow!("a number is missing"));
-        }
-        let number = self.list[self.at];
-        self.at += 1;
-        Ok(number)
+        self.0.next().context("a number is missing")
     }
 
     // A number of places or of things.
     pub(crate) fn size(&mut self) -> anyhow::Result<usize> {
-        let number = self.number()?;
-        if number < 0 || number > 100000 {
-            return Err(anyhow!("not a size"));
+        match usize::try_from(self.number()?) {
+            Ok(size) if size <= 100_000 => Ok(size),
+            _ => bail!("not a size"),
         }
-        Ok(number as usize)
     }
 
     // A number of 32 bits; one outside is given as the greatest.
     pub(crate) fn natural(&mut self) -> anyhow::Result<u32> {
-        let number = self.number()?;
-        if number < 0 || number > 4294967295 {
-            return Ok(4294967295);
-        }
-        Ok(number as u32)
+        Ok(u32::try_from(self.number()?).unwrap_or(u32::MAX))
     }
 
     pub(crate) fn point(&mut self) -> anyhow::Result<Point> {
-        let x = self.number()?;
-        let y = self.number()?;
-        let z = self.number()?;
-        Ok(Point::new(x, y, z))
+        Ok(Point::new(self.number()?, self.number()?, self.number()?))
+    }
+
+    pub(crate) fn facet(&mut self) -> anyhow::Result<Facet> {
+        Ok(Facet {
+            a: self.point()?,
+            b: self.point()?,
+            c: self.point()?,
+        })
     }
 
     pub(crate) fn run(&mut self) -> anyhow::Result<Run> {
-        let dx = self.number()?;
-        let dy = self.number()?;
-        let dz = self.number()?;
-        Ok(Run { dx, dy, dz })
+        Ok(Run {
+            dx: self.number()?,
+            dy: self.number()?,
+            dz: self.number()?,
+        })
+    }
+
+    // So many items, each taken by the same call.
+    pub(crate) fn list<T: Drop, F: FnMut(&mut Numbers) -> anyhow::Result<T>>(
+        &mut self,
+        heap: Global,
+        count: usize,
+        mut take: F,
+    ) -> anyhow::Result<Vec<T>>
+        requires { F.IsAlwaysCallable take }
+    {
+        let mut list = Vec::new(heap);
+        for _ in 0..count {
+            list.push(take(self)?)?;
+        }
+        Ok(list)
     }
 }
 
-// How a refusal is written.
-pub(crate) fn refused(heap: Global, refusal: Refusal) -> anyhow::Result<String> {
-    Ok(format!(in heap; "{refusal}")?)
+// Numbers with a space between.
+#[derive(Drop)]
+pub(crate) struct Spaced<const N: usize>(pub(crate) [i64; N]);
+
+impl<const N: usize> Display for Spaced<N> {
+    fn fmt<W: fmt::Write>(&self, f: &mut fmt::Formatter<W>) -> fmt::Result {
+        for (place, number) in self.0.iter().enumerate() {
+            if place > 0 {
+                write!(f, " ")?;
+            }
+            write!(f, "{number}")?;
+        }
+        Ok(())
+    }
+}
+
+// What is written for an answer: its value, or why there is none.
+pub(crate) fn told<T: Display + Drop, E: Display + Drop>(
+    heap: Global,
+    answer: Result<T, E>,
+) -> anyhow::Result<String> {
+    let text = match answer {
+        Ok(value) => format!(in heap; "{value}")?,
+        Err(refusal) => format!(in heap; "{refusal}")?,
+    };
+    Ok(text)
 }
