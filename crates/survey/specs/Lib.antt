@@ -7,7 +7,6 @@ pub mod Raster
 pub mod Survey
 pub mod Refusals
 pub mod Changes
-pub mod Lights
 pub mod Account
 pub mod Greatest
 pub mod Law

@@ -86,7 +86,7 @@ fn grey_at<P: Plane>(survey: &Casting, plane: &P, column: Column, row: Row) -> u
     ensures { result ≡ grey_at (P.Plane.model plane.now) (casting_of survey.now).total column.0 row.0 }
 {
     match look(survey, plane, column, row) {
-        Ok((mark, _count, _total)) => mark.grey(),
+        Ok((mark, _count, _total)) => mark.into(),
         Err(_) => OUTSIDE,
     }
 }

@@ -2,8 +2,8 @@ use Rattle.std.proofs.Common.{◌≡◌, true, false, sym, ap, ◌∙◌, add-ze
 use Rattle.geometry.specs.Light.{run_of}
 use Rattle.survey.specs.Changes.{sunward_below}
 use Rattle.survey.proofs.Volumes.{sunward_more}
-use Rattle.survey.proofs.casting.count_sunward.Goals as goal
-use Rattle.survey.proofs.casting.count_sunward.Goals.{then-is_sunward_at, else-is_sunward_at}
+use Rattle.survey.proofs.light.Light.count_sunward.Goals as goal
+use Rattle.survey.proofs.light.Light.count_sunward.Goals.{then-is_sunward, else-is_sunward}
 
 pub overflow_add-sunward : goal.overflow_add-sunward
 overflow_add-sunward g c =
@@ -14,17 +14,17 @@ overflow_add-sunward g c =
 pub loop-number-preserved : goal.loop-number-preserved
 loop-number-preserved g c =
     let S = g.S.Solid.model c.args.solid.now in
-    let d = run_of c.args.run in
+    let d = run_of c.args.self.run in
     let e = c.loop-number.invariant.0 in
     let low = c.loop-number.invariant.1 in
-    elim c.if-is_sunward_at.branch [
-      | then-is_sunward_at w ↦ (w.sunward-is ∙ sunward_more S d c.loop-number.number c.loop-number.sunward true w.if-is_sunward_at.ensures e, omega (arith, w.sunward-is))
-      | else-is_sunward_at w ↦
-          (w.sunward-is ∙ sym (add-zero c.loop-number.sunward) ∙ sunward_more S d c.loop-number.number c.loop-number.sunward false w.if-is_sunward_at.ensures e, omega (arith, w.sunward-is))
+    elim c.if-is_sunward.branch [
+      | then-is_sunward w ↦ (w.sunward-is ∙ sunward_more S d c.loop-number.number c.loop-number.sunward true w.if-is_sunward.ensures e, omega (arith, w.sunward-is))
+      | else-is_sunward w ↦
+          (w.sunward-is ∙ sym (add-zero c.loop-number.sunward) ∙ sunward_more S d c.loop-number.number c.loop-number.sunward false w.if-is_sunward.ensures e, omega (arith, w.sunward-is))
     ]
 
 pub returns : goal.returns
 returns g c =
     let S = g.S.Solid.model c.args.solid.now in
     let e : c.loop-number.number ≡ S.triangles = omega arith in
-    c.loop-number.invariant.0 ∙ ap (sunward_below S (run_of c.args.run)) e
+    c.loop-number.invariant.0 ∙ ap (sunward_below S (run_of c.args.self.run)) e
