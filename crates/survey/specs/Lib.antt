@@ -2,8 +2,11 @@ pub mod Drawing
 pub mod Spans
 pub mod Sides
 pub mod Tilts
+pub mod Frames
 pub mod RasterOutlines
 pub mod Raster
+pub mod RasterTilts
+pub mod Projections
 pub mod Survey
 pub mod Refusals
 pub mod Changes

@@ -1,6 +1,6 @@
-use Rattle.std.proofs.Common.{◌+◌, ◌*◌, sym, refl, ◌∙◌, add-zero, lit<}
+use Rattle.std.proofs.Common.{◌∙◌}
 use Rattle.geometry.specs.Light.{run_of}
-use Rattle.survey.proofs.Volumes.{place_below, walls_tallied}
+use Rattle.survey.proofs.Volumes.{walls_tallied}
 use Rattle.survey.proofs.light.Light.cast_walls.Goals as goal
 
 pub returns : goal.returns

@@ -17,7 +17,7 @@ returns g c =
           painted_same m (g.P.Plane.model c.sweep_rows.new.plane) (λ k l. x l && covers out k l) (covers out) (g.B.Brush.lays c.args.brush) (g.B.Brush.adds c.args.brush)
           (λ k l w.
           all_rows (x l) (covers out k l)
-          (no_row out c.requires (within c.window-window.result.r0.0 c.window-window.result.r1.0 l) (x l) k l
+          (no_row out (within c.window-window.result.r0.0 c.window-window.result.r1.0 l) (x l) k l
           (ap₂ (λ (a b : ℕ). within a b l) c.window-window.ensures.r0 c.window-window.ensures.r1 ∙ window_rows m k l w) (c.rows-rows.ensures l)))
           c.sweep_rows.ensures.after;
       names = c.sweep_rows.ensures.names;

@@ -4,7 +4,8 @@ use Rattle.std.proofs.lemmas.Bool.{true≢false, cond-true, cond-false}
 use Rattle.algebra.specs.Counts.{mod_z, Up, Down}
 use Rattle.algebra.proofs.Counts.{turned_is}
 use Rattle.planes.specs.Planes.{PlaneModel, Sound}
-use Rattle.survey.specs.Tilts.{value_at, turn_of}
+use Rattle.survey.specs.RasterTilts.{value_on}
+use Rattle.survey.specs.Tilts.{turn_of}
 use Rattle.survey.specs.declared.raster.facing.Facing.{Facing}
 use Rattle.survey.specs.declared.raster.facing.Facing.TheVariants as facing
 use Rattle.survey.specs.declared.raster.brushes.Crossing.{Crossing}
@@ -15,7 +16,7 @@ abbrev lays : ℕ → ℕ → Option ℤ
 lays _ _ = None
 
 abbrev over : Crossing → ℕ → ℕ → ℤ → Bool
-over b i j h = lt_z (pos 0) (value_at b.tilt.base b.tilt.column b.tilt.row b.tilt.height i j h)
+over b i j h = lt_z (pos 0) (value_on b.tilt i j h)
 
 abbrev adds : Crossing → ℕ → ℕ → ℤ → ℤ
 adds b i j h = cond (over b i j h) (turn_of b.facing) (pos 0)

@@ -1,12 +1,12 @@
 use Rattle.std.proofs.Common.{ℕ, cond, ℤ, pos, Some, None, Option, sym, ap}
 use Rattle.planes.specs.Planes.{PlaneModel, is_height}
-use Rattle.survey.specs.Tilts.{least_over}
+use Rattle.survey.specs.RasterTilts.{least_on}
 use Rattle.survey.specs.declared.raster.brushes.Laying.{Laying}
 use Rattle.survey.proofs.RasterSweeps.{raised, none_more}
 use Rattle.survey.proofs.raster.brushes.LayingBrush.touch.Goals as goal
 
 abbrev least : Laying → ℕ → ℕ → ℤ
-least b i j = least_over b.tilt.base b.tilt.column b.tilt.row b.tilt.height i j
+least b i j = least_on b.tilt i j
 
 abbrev lays : Laying → ℕ → ℕ → Option ℤ
 lays b i j = cond (is_height (least b i j)) (Some (least b i j)) None

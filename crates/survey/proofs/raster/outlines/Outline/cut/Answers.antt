@@ -1,6 +1,6 @@
 use Rattle.std.proofs.Common.{◌≡◌, Bool, ◌&&◌, arith}
 use Rattle.survey.specs.Spans.{within}
-use Rattle.survey.specs.RasterOutlines.{inner_of}
+use Rattle.survey.specs.Frames.{inner_of}
 use Rattle.survey.proofs.raster.outlines.Outline.cut.Goals as goal
 
 four_cuts : (w a b c d r s t u : Bool) → r ≡ (w && a) → s ≡ (r && b) → t ≡ (s && c) → u ≡ (t && d) → u ≡ (w && (a && (b && (c && d))))
