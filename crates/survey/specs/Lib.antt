@@ -14,4 +14,5 @@ pub mod Account
 pub mod Greatest
 pub mod Law
 pub mod Picture
+pub mod Pens
 pub mod Cases
