@@ -1,7 +1,8 @@
 -- Writing a buffer from its front, and the bytes of a picture.
 use Rattle.std.proofs.Common.{◌≡◌, ℕ, zero, suc, ◌+◌, ◌-◌, ◌*◌, ◌/◌, ◌%◌, ◌^◌, ◌<◌, ◌≤◌, true, ltb, ◌⊎◌, List, [], ◌∷◌, ◌++◌, length, get_or, take, drop, set, max, pow-suc, decimal, sym, refl, ap, ◌∙◌, subst, ap₂, inl, inr, append_assoc, append-nil, add-zero, mul_comm, mul-le-mul_left, add-one, arith, lit<, length-append, length-drop, drop-cons}
 use native.Mathlib.Nat.{lt_of_not-le, le-max_left, pow-le-pow_right}
-use Rattle.std.proofs.lemmas.List.{set_at, get_or_at, take_more, get_or_append_left, get_or-append_right, get_or-append-add}
+use Rattle.std.proofs.Math.Seq.{take-append_seam, drop-append-add}
+use Rattle.std.proofs.lemmas.List.{take-append-drop, drop-drop, set_at, get_or_at, get_or_append_left, get_or-append_right, get_or-append-add}
 use Rattle.std.proofs.lemmas.Bool.{cond-true, cases_eq, and_parts, ltb-true}
 use Rattle.std.proofs.lemmas.Fmt.{decimal_digit, decimal_step, decimal_by_steps, decimal_nonempty, length-decimal-le}
 use Rattle.planes.specs.Planes.{PlaneModel, Sound, in_window}
@@ -32,6 +33,20 @@ appended_one at byte old h = record {
   place = refl;
   bytes = λ e before l is. one_more at byte old e before h l is;
 }
+
+-- several bytes
+pub appended_text : (at : ℕ) (bs old new : List ℕ) → take (at + length bs) new ≡ take at old ++ bs → drop (at + length bs) new ≡ drop (at + length bs) old → Appended at bs old new (at + length bs)
+appended_text at bs old new front back = record { place = refl; bytes = written }
+  where
+    written : (e before : List ℕ) → length before ≡ at → old ≡ filled e before → new ≡ filled e (before ++ bs)
+    written e before l is =
+        let kept : take at old ≡ before = ap₂ take (sym l) is ∙ take-append_seam before (drop (length before) e) in
+        let rest : drop (at + length bs) old ≡ drop (length (before ++ bs)) e
+        = ap₂ (λ (n : ℕ) (o : List ℕ). drop (n + length bs) o) (sym l) is
+        ∙ drop-append-add before (drop (length before) e) (length bs)
+        ∙ drop-drop (length bs) (length before) e
+        ∙ ap (λ (n : ℕ). drop n e) (sym (length-append before bs)) in
+        sym (take-append-drop (at + length bs) new) ∙ ap₂ ◌++◌ (front ∙ ap (λ (x : List ℕ). x ++ bs) kept) (back ∙ rest)
 
 -- nothing
 pub appended_none : (at : ℕ) (old : List ℕ) → Appended at [] old old at
@@ -72,10 +87,6 @@ leads_room p q n (ds, (a, e)) h =
 
 pub leads_writes : (p q r : Pen) (n : ℕ) → Leads p q n → Writes q ((48 + n % 10) ∷ []) r → Writes p (decimal n) r
 leads_writes p q r n (ds, (a, e)) b = subst (λ (bs : List ℕ). Writes p bs r) e (writes_more p q r ds ((48 + n % 10) ∷ []) a b)
-
--- a text, byte by byte
-pub writes_byte : (p q r : Pen) (i : ℕ) (text : List ℕ) → i < length text → Writes p (take i text) q → Writes q (get_or text i 0 ∷ []) r → Writes p (take (i + 1) text) r
-writes_byte p q r i text h a b = subst (λ (t : List ℕ). Writes p t r) (sym (take_more text i 0 h)) (writes_more p q r (take i text) (get_or text i 0 ∷ []) a b)
 
 -- ---- numbers
 -- a number is below the power of ten that has as many zeros as it has digits

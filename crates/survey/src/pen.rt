@@ -27,9 +27,11 @@ impl<'a> Pen<'a> {
         ensures same { self.new.buffer.ghost_name ≡ self.old.buffer.ghost_name }
         ensures writes { Writes self.old text.now self.new }
     {
-        for byte in text {
-            self.put(*byte);
-        }
+        let start = self.at;
+        let end = start + text.len();
+        let buffer = &mut *self.buffer;
+        buffer[start..end].copy_from_slice(text);
+        self.at = end;
     }
 
     // Writes a number by its digits.

@@ -1,17 +1,26 @@
-use Rattle.std.proofs.Common.{ℕ, List, refl, ◌∙◌, subst, arith}
-use Rattle.std.proofs.lemmas.List.{take_all, length-take}
-use Rattle.survey.specs.Pens.{Writes}
-use Rattle.survey.proofs.Pictures.{writes_none, writes_byte}
+use Rattle.std.proofs.Common.{◌≡◌, ◌+◌, ◌-◌, ◌≤◌, ◌++◌, length, take, drop, refl, ap, ◌∙◌, arith}
+use Rattle.std.proofs.lemmas.Slice.{take-put_mid, drop-put_mid}
+use borrow.Rule.Slice.PartMut.{put_mid, same_len_mid}
+use Rattle.survey.proofs.Pictures.{appended_text}
 use Rattle.survey.proofs.pen.Pen.put_text.Goals as goal
 
-pub put-requires : goal.put-requires
-put-requires c = let l = length-take c.loop-byte.byte-index c.args.text.now in omega (arith, c.loop-byte.invariant.writes.written.place, c.loop-byte.invariant.writes.size)
-
-pub loop-byte-init : goal.loop-byte-init
-loop-byte-init c = record { same = refl; writes = writes_none c.args.self.now }
-
-pub loop-byte-preserved : goal.loop-byte-preserved
-loop-byte-preserved c = record { same = c.put.ensures.same ∙ c.loop-byte.invariant.same; writes = writes_byte c.args.self.now c.loop-byte.self c.put.new.self c.loop-byte.byte-index c.args.text.now c.loop-byte-test.true c.loop-byte.invariant.writes c.put.ensures.writes }
-
 pub returns : goal.returns
-returns c = record { same = c.loop-byte.invariant.same; writes = subst (λ (t : List ℕ). Writes c.args.self.now t c.loop-byte.self) (take_all _ _ c.loop-byte-test.false) c.loop-byte.invariant.writes }
+returns c =
+    let p = c.args.self.now in
+    let at = p.at in
+    let old = p.buffer.now in
+    let text = c.args.text.now in
+    let put = c.copy_from_slice.new.self in
+    let is : put ≡ text = c.copy_from_slice.ensures.after in
+    let long : length put ≡ length text = ap length is in
+    let room : at + length text ≤ length old = c.requires in
+    record {
+      same = refl;
+      writes = record {
+        size = same_len_mid at (at + length text - at) old put c.copy_from_slice.ensures.len;
+        written =
+            appended_text at text old (put_mid at (at + length text - at) old put)
+            (take-put_mid at (at + length text - at) old put (at + length text) (omega (arith, long)) (omega (arith, room)) ∙ ap (λ (x : _). take at old ++ x) is)
+            (drop-put_mid at (at + length text - at) old put (at + length text) (omega arith) (omega (arith, room)) (omega (arith, long)));
+      };
+    }
