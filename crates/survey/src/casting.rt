@@ -17,7 +17,7 @@ use geometry::light::Run;
 use geometry::refusal::Refusal;
 use planes::plane::Plane;
 use solids::solid::Solid;
-use volumes::face::{far_cap, near_cap, wall};
+use volumes::face::Face;
 
 // The sunward triangles that a survey may cast in all.
 const MOST: u64 = 1_000_000;
@@ -43,8 +43,8 @@ impl Light {
         ensures names { P.Plane.names plane.new ≡ P.Plane.names plane.old }
     {
         let facet = part.facet();
-        draw_face(plane, &near_cap(facet.a, facet.b, facet.c));
-        draw_face(plane, &far_cap(facet.a, facet.b, facet.c, self.extent));
+        draw_face(plane, &Face::near_cap(facet));
+        draw_face(plane, &Face::far_cap(facet, self.extent));
     }
 
     // Draws the wall on the side at a place, if the side is on the silhouette: if its partner's triangle is not sunward.
@@ -60,7 +60,7 @@ impl Light {
         };
         if !part.is_sunward(self) {
             let (u, v) = ends_of(solid, place);
-            draw_face(plane, &wall(u, v, self.extent));
+            draw_face(plane, &Face::wall(u, v, self.extent));
         }
     }
 

@@ -6,17 +6,9 @@ ghost use Rattle.solids.specs.Solids.{places, start_of, end_of};
 ghost use Rattle.volumes.specs.Volumes.{corner_of, sunward_at};
 
 use crate::light::Light;
-use geometry::strike::is_sunward;
+use geometry::facet::Facet;
 use geometry::units::Point;
 use solids::solid::Solid;
-
-// Three corners, in the order of their triangle.
-#[derive(Clone, Copy)]
-pub(crate) struct Facet {
-    pub(crate) a: Point,
-    pub(crate) b: Point,
-    pub(crate) c: Point,
-}
 
 // One of a solid's triangles, by its number.
 #[derive(Drop)]
@@ -45,8 +37,7 @@ impl<'a, S: Solid> Part<'a, S> {
     pub(crate) fn is_sunward(&self, light: Light) -> bool
         ensures { result ≡ sunward_at (S.Solid.model self.now.solid.now) (run_of light.run) self.now.number }
     {
-        let facet = self.facet();
-        is_sunward(light.run, facet.a, facet.b, facet.c)
+        self.facet().is_sunward(light.run)
     }
 }
 

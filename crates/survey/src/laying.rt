@@ -48,7 +48,7 @@ fn lay_triangles<P: Plane, S: Solid>(plane: &mut P, solid: &S)
     for number in 0..solid.triangles() {
         let part = Part { solid, number };
         let facet = part.facet();
-        lay_triangle(plane, facet.a, facet.b, facet.c);
+        lay_triangle(plane, facet);
     }
 }
 

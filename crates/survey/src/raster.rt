@@ -17,11 +17,11 @@ ghost use Rattle.survey.specs.Drawing.{Drawn, LaidOn};
 ghost use Rattle.survey.specs.Raster.{Drawable};
 
 use brushes::{Crossing, Laying};
-use geometry::units::Point;
+use geometry::facet::Facet;
 use planes::plane::Plane;
 use projections::Projection;
 use sweeps::sweep;
-use volumes::face::{Face, near_cap};
+use volumes::face::Face;
 
 // Counts the face at each pixel of the window that it covers and is below.
 pub(crate) fn draw_face<P: Plane>(plane: &mut P, face: &Face)
@@ -39,14 +39,14 @@ pub(crate) fn draw_face<P: Plane>(plane: &mut P, face: &Face)
 }
 
 // Raises each pixel of the window that the triangle covers to the whole number above it.
-pub(crate) fn lay_triangle<P: Plane>(plane: &mut P, a: Point, b: Point, c: Point)
-    requires a { InLimits (point_of a) }
-    requires b { InLimits (point_of b) }
-    requires c { InLimits (point_of c) }
-    ensures after { LaidOn (P.Plane.model plane.old) (point_of a) (point_of b) (point_of c) (P.Plane.model plane.new) }
+pub(crate) fn lay_triangle<P: Plane>(plane: &mut P, facet: Facet)
+    requires a { InLimits (point_of facet.a) }
+    requires b { InLimits (point_of facet.b) }
+    requires c { InLimits (point_of facet.c) }
+    ensures after { LaidOn (P.Plane.model plane.old) (point_of facet.a) (point_of facet.b) (point_of facet.c) (P.Plane.model plane.new) }
     ensures names { P.Plane.names plane.new ≡ P.Plane.names plane.old }
 {
-    let face = near_cap(a, b, c);
+    let face = Face::near_cap(facet);
     if let Some(seen) = Projection::of(&face) {
         sweep(plane, &seen.outline, Laying { tilt: seen.tilt });
     }

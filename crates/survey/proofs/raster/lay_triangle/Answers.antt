@@ -15,13 +15,13 @@ use Rattle.survey.proofs.raster.lay_triangle.Goals as goal
 pub of-requires : goal.of-requires
 of-requires g c =
     let r = c.requires in
-    subst Drawable (sym (c.near_cap-face.ensures.exact r.a r.b r.c)) (near_cap_drawable (point_of c.args.a) (point_of c.args.b) (point_of c.args.c) r.a r.b r.c)
+    subst Drawable (sym (c.near_cap-face.ensures.exact r.a r.b r.c)) (near_cap_drawable (point_of c.args.facet.a) (point_of c.args.facet.b) (point_of c.args.facet.c) r.a r.b r.c)
 
 pub returns-in-Some : goal.returns-in-Some
 returns-in-Some g c =
-    let u : V3 = point_of c.args.a in
-    let v : V3 = point_of c.args.b in
-    let w : V3 = point_of c.args.c in
+    let u : V3 = point_of c.args.facet.a in
+    let v : V3 = point_of c.args.facet.b in
+    let w : V3 = point_of c.args.facet.c in
     let r = c.requires in
     let f : Face = face_of c.near_cap-face.result in
     let p = c.in-Some.seen in
@@ -38,9 +38,9 @@ returns-in-Some g c =
 
 pub returns-in_default : goal.returns-in_default
 returns-in_default g c =
-    let u : V3 = point_of c.args.a in
-    let v : V3 = point_of c.args.b in
-    let w : V3 = point_of c.args.c in
+    let u : V3 = point_of c.args.facet.a in
+    let v : V3 = point_of c.args.facet.b in
+    let w : V3 = point_of c.args.facet.c in
     let r = c.requires in
     let d : Drawable (triangle u v w) = near_cap_drawable u v w r.a r.b r.c in
     let e : None ≡ facing_of (triangle u v w).normal.z = c.in_default.ensures ∙ ap (λ (x : Face). facing_of x.normal.z) (c.near_cap-face.ensures.exact r.a r.b r.c) in
