@@ -28,6 +28,7 @@ impl Light {
         ensures { result ≡ sunward_total (S.Solid.model solid.now) (run_of self.run) }
     {
         let mut sunward = 0;
+        // A `filter(..).count()` would be given numbers that may name no triangle: one test more for each, and one case more to prove.
         for number in 0..solid.triangles() {
             let part = Part { solid, number };
             if part.is_sunward(self) {
