@@ -24,11 +24,8 @@ loop-number-preserved g c = (
   c.lay_triangle.ensures.names ∙ c.loop-number.invariant.1,
 )
 
-pub returns : goal.returns
-returns g c =
+pub returns-clause-after : goal.returns-clause-after
+returns-clause-after g c =
     let S = g.S.Solid.model c.args.solid.now in
     let e : c.loop-number.number ≡ S.triangles = omega arith in
-    record {
-      after = subst (λ (n : ℕ). Heightened (g.P.Plane.model c.args.plane.now) (lays_below S n) (g.P.Plane.model c.loop-number.plane)) e c.loop-number.invariant.0;
-      names = c.loop-number.invariant.1;
-    }
+    subst (λ (n : ℕ). Heightened (g.P.Plane.model c.args.plane.now) (lays_below S n) (g.P.Plane.model c.loop-number.plane)) e c.loop-number.invariant.0

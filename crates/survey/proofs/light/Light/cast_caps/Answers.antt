@@ -1,4 +1,3 @@
-use Rattle.std.proofs.Common.{◌∙◌}
 use Rattle.geometry.specs.Light.{run_of}
 use Rattle.volumes.specs.Machine.{face_of}
 use Rattle.survey.proofs.Volumes.{near_is, far_is, near_drawable, far_drawable, caps_tallied}
@@ -18,15 +17,12 @@ draw_face-requires-2 g c =
     far_drawable S law (run_of c.args.self.run) c.args.self.falls c.args.part.now.number c.args.part.now.there (face_of c.far_cap.result)
     (far_is S law (run_of c.args.self.run) c.args.self.falls c.args.part.now.number c.args.part.now.there _ _ _ _ c.facet-facet.ensures.a c.facet-facet.ensures.b c.facet-facet.ensures.c c.args.self.swept (face_of c.far_cap.result) c.far_cap.ensures.exact)
 
-pub returns : goal.returns
-returns g c =
+pub returns-clause-after : goal.returns-clause-after
+returns-clause-after g c =
     let S = g.S.Solid.model c.args.part.now.solid.now in
     let law = g.S.Solid.lawful c.args.part.now.solid.now in
-    record {
-      after = caps_tallied (g.P.Plane.model c.args.plane.now) (g.P.Plane.model c.draw_face.new.plane) (g.P.Plane.model c.draw_face-2.new.plane) S (run_of c.args.self.run) c.args.part.now.number _ _
-          (g.P.Plane.sound c.args.plane.now)
-          (near_is S law c.args.part.now.number c.args.part.now.there _ _ _ c.facet-facet.ensures.a c.facet-facet.ensures.b c.facet-facet.ensures.c (face_of c.near_cap.result) c.near_cap.ensures.exact)
-          (far_is S law (run_of c.args.self.run) c.args.self.falls c.args.part.now.number c.args.part.now.there _ _ _ _ c.facet-facet.ensures.a c.facet-facet.ensures.b c.facet-facet.ensures.c c.args.self.swept (face_of c.far_cap.result) c.far_cap.ensures.exact)
-          c.draw_face.ensures.after c.draw_face-2.ensures.after;
-      names = c.draw_face-2.ensures.names ∙ c.draw_face.ensures.names;
-    }
+    caps_tallied (g.P.Plane.model c.args.plane.now) (g.P.Plane.model c.draw_face.new.plane) (g.P.Plane.model c.draw_face-2.new.plane) S (run_of c.args.self.run) c.args.part.now.number _ _
+    (g.P.Plane.sound c.args.plane.now)
+    (near_is S law c.args.part.now.number c.args.part.now.there _ _ _ c.facet-facet.ensures.a c.facet-facet.ensures.b c.facet-facet.ensures.c (face_of c.near_cap.result) c.near_cap.ensures.exact)
+    (far_is S law (run_of c.args.self.run) c.args.self.falls c.args.part.now.number c.args.part.now.there _ _ _ _ c.facet-facet.ensures.a c.facet-facet.ensures.b c.facet-facet.ensures.c c.args.self.swept (face_of c.far_cap.result) c.far_cap.ensures.exact)
+    c.draw_face.ensures.after c.draw_face-2.ensures.after

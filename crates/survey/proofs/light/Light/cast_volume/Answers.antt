@@ -15,14 +15,11 @@ loop-number-preserved g c = (
   c.cast_triangle.ensures.names ∙ c.loop-number.invariant.1,
 )
 
-pub returns : goal.returns
-returns g c =
+pub returns-clause-after : goal.returns-clause-after
+returns-clause-after g c =
     let S = g.S.Solid.model c.args.solid.now in
     let m = g.P.Plane.model c.args.plane.now in
     let n = g.P.Plane.model c.loop-number.plane in
     let d = run_of c.args.self.run in
     let e : c.loop-number.number ≡ S.triangles = omega arith in
-    record {
-      after = shadowed m n S d (g.P.Plane.sound c.args.plane.now) (g.S.Solid.lawful c.args.solid.now) c.args.self.falls (subst (λ (k : ℕ). Tallied m (faces_below S d k) n) e c.loop-number.invariant.0);
-      names = c.loop-number.invariant.1;
-    }
+    shadowed m n S d (g.P.Plane.sound c.args.plane.now) (g.S.Solid.lawful c.args.solid.now) c.args.self.falls (subst (λ (k : ℕ). Tallied m (faces_below S d k) n) e c.loop-number.invariant.0)
