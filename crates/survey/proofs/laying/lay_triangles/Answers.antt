@@ -1,5 +1,4 @@
-use Rattle.std.proofs.Common.{◌≡◌, ℕ, ◌<◌, refl, ◌∙◌, subst, arith, lit<}
-use Rattle.survey.specs.Changes.{lays_below, Heightened}
+use Rattle.std.proofs.Common.{ℕ, ◌<◌, refl, ◌∙◌, subst, lit<}
 use Rattle.survey.proofs.Limits.{point_in_limits}
 use Rattle.survey.proofs.Steps.{heightened_none, laid_more}
 use Rattle.survey.proofs.laying.lay_triangles.Goals as goal
@@ -23,9 +22,3 @@ loop-number-preserved g c = (
   laid_more _ _ _ (g.S.Solid.model c.args.solid.now) c.loop-number.number _ _ _ c.facet-facet.ensures.a c.facet-facet.ensures.b c.facet-facet.ensures.c c.loop-number.invariant.0 c.lay_triangle.ensures.after,
   c.lay_triangle.ensures.names ∙ c.loop-number.invariant.1,
 )
-
-pub returns-clause-after : goal.returns-clause-after
-returns-clause-after g c =
-    let S = g.S.Solid.model c.args.solid.now in
-    let e : c.loop-number.number ≡ S.triangles = omega arith in
-    subst (λ (n : ℕ). Heightened (g.P.Plane.model c.args.plane.now) (lays_below S n) (g.P.Plane.model c.loop-number.plane)) e c.loop-number.invariant.0

@@ -1,15 +1,8 @@
-use Rattle.std.proofs.Common.{◌≡◌, true, false, sym, ap, ◌∙◌, add-zero, arith}
+use Rattle.std.proofs.Common.{true, false, sym, ◌∙◌, add-zero, arith}
 use Rattle.geometry.specs.Light.{run_of}
-use Rattle.survey.specs.Changes.{sunward_below}
 use Rattle.survey.proofs.Volumes.{sunward_more}
 use Rattle.survey.proofs.light.Light.count_sunward.Goals as goal
 use Rattle.survey.proofs.light.Light.count_sunward.Goals.{then-is_sunward, else-is_sunward}
-
-pub overflow_add-sunward : goal.overflow_add-sunward
-overflow_add-sunward g c =
-    let few = (g.S.Solid.lawful c.args.solid.now).triangles_few in
-    let low = c.loop-number.invariant.1 in
-    omega (arith, c.triangles-number-end.ensures)
 
 pub loop-number-preserved : goal.loop-number-preserved
 loop-number-preserved g c =
@@ -22,9 +15,3 @@ loop-number-preserved g c =
       | else-is_sunward w ↦
           (w.sunward-is ∙ sym (add-zero c.loop-number.sunward) ∙ sunward_more S d c.loop-number.number c.loop-number.sunward false w.if-is_sunward.ensures e, omega (arith, w.sunward-is))
     ]
-
-pub returns : goal.returns
-returns g c =
-    let S = g.S.Solid.model c.args.solid.now in
-    let e : c.loop-number.number ≡ S.triangles = omega arith in
-    c.loop-number.invariant.0 ∙ ap (sunward_below S (run_of c.args.self.run)) e

@@ -5,9 +5,6 @@ use Rattle.survey.specs.Pens.{Writes}
 use Rattle.survey.proofs.Pictures.{length-row, writes_none, writes_pixel}
 use Rattle.survey.proofs.pen.Pen.put_row.Goals as goal
 
-pub grey_at-requires : goal.grey_at-requires
-grey_at-requires g c = c.requires.fits
-
 pub put-requires : goal.put-requires
 put-requires g c =
     let l = length-row (g.P.Plane.model c.args.plane.now) (casting_of c.args.survey.now).total c.args.row.0 c.loop-column.column in

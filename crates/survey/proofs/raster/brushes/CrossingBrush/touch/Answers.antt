@@ -1,4 +1,4 @@
-use Rattle.std.proofs.Common.{◌≡◌, ℕ, ◌+◌, ◌-◌, ◌%◌, ◌<◌, Bool, true, false, cond, ℤ, pos, ◌+ℤ◌, neg_ℤ, ◌≤ℤ◌, None, Option, sym, refl, ap, ◌∙◌, subst, arith}
+use Rattle.std.proofs.Common.{◌≡◌, ℕ, ◌+◌, ◌-◌, ◌%◌, ◌<◌, Bool, true, false, cond, ℤ, pos, ◌+ℤ◌, neg_ℤ, None, Option, sym, refl, ap, ◌∙◌, arith}
 use lib.Signed.{lt_z}
 use Rattle.std.proofs.lemmas.Bool.{true≢false, cond-true, cond-false}
 use Rattle.algebra.specs.Counts.{mod_z, Up, Down}
@@ -39,16 +39,6 @@ one_more m i j a s e = turned_is m.modulus (m.count i j) Up (some_modulus m s) �
 
 as_before : (m : PlaneModel) (i j : ℕ) (a : ℤ) → Sound m → a ≡ pos 0 → mod_z (pos (m.count i j) +ℤ a) m.modulus ≡ m.count i j
 as_before m i j a s e = ap (λ (x : ℤ). mod_z (pos (m.count i j) +ℤ x) m.modulus) e ∙ none_more (m.count i j) m.modulus (s.counts i j)
-
-pub is_below-requires : goal.is_below-requires
-is_below-requires g c =
-    let m : PlaneModel = g.P.Plane.model c.args.plane.now in
-    let s : Sound m = g.P.Plane.sound c.args.plane.now in
-    let e = c.in-Some.ensures.1 in
-    record {
-      low = subst (λ (x : ℤ). neg_ℤ (pos 8192) ≤ℤ x) (sym e) (s.heights_low c.args.column.0 c.args.row.0);
-      high = subst (λ (x : ℤ). x ≤ℤ pos 8193) (sym e) (s.heights_high c.args.column.0 c.args.row.0);
-    }
 
 pub returns-in-Up-clause-after : goal.returns-in-Up-clause-after
 returns-in-Up-clause-after g c =

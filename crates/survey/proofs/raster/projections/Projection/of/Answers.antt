@@ -6,9 +6,6 @@ use Rattle.survey.proofs.TiltLaws.{read}
 use Rattle.survey.proofs.RasterFaces.{rises}
 use Rattle.survey.proofs.raster.projections.Projection.of.Goals as goal
 
-pub of-outline-requires : goal.of-outline-requires
-of-outline-requires c = c.requires.corners
-
 pub facing-tilt-requires : goal.facing-tilt-requires
 facing-tilt-requires c =
     let f : Face = face_of c.args.face.now in
