@@ -3,14 +3,6 @@ use Rattle.volumes.specs.Machine.{face_of}
 use Rattle.survey.proofs.Volumes.{partner_is, partner_triangle, wall_is, wall_at_drawable, wall_drawn, wall_left_out}
 use Rattle.survey.proofs.light.Light.cast_wall.Goals as goal
 
-pub invariant_of-part : goal.invariant_of-part
-invariant_of-part g c =
-    let S = g.S.Solid.model c.args.solid.now in
-    record {
-      there = partner_triangle S (g.S.Solid.lawful c.args.solid.now) c.args.place c.unwrap-partner.result c.requires
-          (partner_is S c.args.place c.partner.result c.unwrap-partner.result c.requires c.partner.ensures c.unwrap-partner.ensures);
-    }
-
 pub draw_face-requires : goal.draw_face-requires
 draw_face-requires g c =
     let S = g.S.Solid.model c.args.solid.now in
