@@ -111,9 +111,6 @@ length-power n k h low high =
     let many : k < length (decimal n) = lt_of_not-le (λ (g : length (decimal n) ≤ k). let under : 10 ^ length (decimal n) ≤ 10 ^ k = pow-le-pow_right (lit< tt) g in omega (arith, low, below, over, under)) in
     omega arith
 
-pub length-digit : (n : ℕ) → n < 10 → 1 ≡ length (decimal n)
-length-digit n h = sym (ap length (decimal_digit n h))
-
 pub length-step : (n : ℕ) → 10 ≤ n → n < 2 ^ 64 → length (decimal (n / 10)) + 1 ≡ length (decimal n)
 length-step n h k = sym (ap length (decimal_step n h k) ∙ length-append (decimal (n / 10)) ((48 + n % 10) ∷ []))
 

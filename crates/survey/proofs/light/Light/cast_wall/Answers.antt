@@ -1,6 +1,6 @@
 use Rattle.geometry.specs.Light.{run_of}
 use Rattle.volumes.specs.Machine.{face_of}
-use Rattle.survey.proofs.Volumes.{partner_is, partner_triangle, wall_is, wall_at_drawable, wall_drawn, wall_left_out}
+use Rattle.survey.proofs.Volumes.{partner_is, wall_is, wall_at_drawable, wall_drawn, wall_left_out}
 use Rattle.survey.proofs.light.Light.cast_wall.Goals as goal
 
 pub draw_face-requires : goal.draw_face-requires
