@@ -34,7 +34,7 @@ impl<'a> Pen<'a> {
         self.at = end;
     }
 
-    // Writes a number by its digits.
+    // Writes a number by its digits. A `write!` would do it too, but no contract says that it succeeds, and drawing may not fail here.
     pub(crate) fn put_number(&mut self, number: u16)
         requires { HasRoom (length (decimal number)) self.old }
         ensures same { self.new.buffer.ghost_name ≡ self.old.buffer.ghost_name }
