@@ -53,12 +53,6 @@ top_below g S p n = maximum_over_some g (lays_below S n p)
 top_more : (g : ℤ) (S : SolidModel) (p : Sample) (n : ℕ) → top_below g S p (suc n) ≡ raised_by (top_below g S p n) (lay_at S n p)
 top_more g S p n = maximum_over_some-push g (lays_below S n p) (lay_at S n p)
 
-top_ground : (g : ℤ) (S : SolidModel) (p : Sample) (n : ℕ) → g ≤ℤ top_below g S p n
-top_ground g S p zero = omega (arith, ints)
-top_ground g S p (suc n) =
-    le_trans g (top_below g S p n) (top_below g S p (suc n)) (top_ground g S p n)
-    (subst (λ (z : ℤ). top_below g S p n ≤ℤ z) (sym (top_more g S p n)) (raised_over (top_below g S p n) (lay_at S n p)))
-
 top_laid : (g : ℤ) (S : SolidModel) (p : Sample) (n j : ℕ) (h : ℤ) → j < n → lay_at S j p ≡ Some h → h ≤ℤ top_below g S p n
 top_laid g S p zero j h l e = absurd (omega arith)
 top_laid g S p (suc n) j h l e = go (cases_eq j n) (top_laid g S p n j h)

@@ -10,7 +10,6 @@ pub mod Limits
 pub mod Pixels
 pub mod Steps
 pub mod Volumes
-pub mod Lights
 pub mod Accounts
 pub mod Greatest
 pub mod Surveys

@@ -1,17 +1,17 @@
 -- What the tests before a call say, and what the law of a solid says of the corners of its triangles.
-use Rattle.std.proofs.Common.{◌≡◌, ℕ, ◌<◌, Bool, true, false, ◌&&◌, ltb, ℤ, pos, neg_ℤ, is_some, Some, Option, sym, refl, subst, arith, MatchOption}
+use Rattle.std.proofs.Common.{◌≡◌, ℕ, ◌<◌, Bool, true, false, ltb, ℤ, pos, neg_ℤ, is_some, Some, Option, sym, refl, subst, arith, MatchOption}
 use Rattle.std.proofs.lemmas.Int.{ints}
-use Rattle.std.proofs.lemmas.Bool.{and_parts, lt-ltb, both_ways, some_since}
+use Rattle.std.proofs.lemmas.Bool.{lt-ltb, both_ways, some_since}
 use Rattle.std.proofs.lemmas.Option.{MatchOption-at_some}
 use Rattle.geometry.specs.Vectors.{V3}
-use Rattle.geometry.specs.Limits.{between, in_run_limits, InLimits, LawfulRun}
+use Rattle.geometry.specs.Limits.{InLimits}
 use Rattle.geometry.proofs.Ranges.{between_low, between_high}
 use Rattle.geometry.specs.declared.refusal.Refusal.{Refusal}
 use Rattle.solids.specs.Solids.{SolidModel, Corners, Lawful, pick, corners_of}
 use Rattle.solids.specs.declared.solid.Triangle.{Triangle}
 use Rattle.volumes.specs.Volumes.{corner_of}
 use Rattle.planes.specs.Planes.{is_height}
-use Rattle.survey.specs.Refusals.{is_ground, has_triangles, unless}
+use Rattle.survey.specs.Refusals.{is_ground, unless}
 
 -- a test that holds leaves it to those after it, and one that fails decides
 pub passes : (b : Bool) (why : Refusal) (rest r : Option Refusal) → b ≡ true → r ≡ rest → r ≡ unless b why rest
@@ -29,33 +29,13 @@ ground_is_height g h =
     let b = between_high (neg_ℤ (pos 8192)) (pos 8192) g h in
     grind (arith, ints)
 
-pub lawful_run : (d : V3) → in_run_limits d ≡ true → LawfulRun d
-lawful_run d h =
-    let xy_z = and_parts (between (neg_ℤ (pos 1024)) (pos 1024) d.x && between (neg_ℤ (pos 1024)) (pos 1024) d.y) (between (neg_ℤ (pos 1024)) (neg_ℤ (pos 1)) d.z) h in
-    let x-y = and_parts (between (neg_ℤ (pos 1024)) (pos 1024) d.x) (between (neg_ℤ (pos 1024)) (pos 1024) d.y) xy_z.0 in
-    record {
-      x_low = between_low (neg_ℤ (pos 1024)) (pos 1024) d.x x-y.0;
-      x_high = between_high (neg_ℤ (pos 1024)) (pos 1024) d.x x-y.0;
-      y_low = between_low (neg_ℤ (pos 1024)) (pos 1024) d.y x-y.1;
-      y_high = between_high (neg_ℤ (pos 1024)) (pos 1024) d.y x-y.1;
-      z_low = between_low (neg_ℤ (pos 1024)) (neg_ℤ (pos 1)) d.z xy_z.1;
-      z_high = between_high (neg_ℤ (pos 1024)) (neg_ℤ (pos 1)) d.z xy_z.1;
-    }
-
 -- ---- triangles and their corners
-pub has_triangles_lem : (S : SolidModel) (n : ℕ) → n ≡ S.triangles → (n ≡ 0 → ⊥) → has_triangles S ≡ true
-has_triangles_lem S n e f = lt-ltb 0 S.triangles (omega arith)
-
 -- each corner of a triangle is within its limits
 pub corner_in_limits : (S : SolidModel) → Lawful S → (k s : ℕ) → k < S.triangles → s < 3 → InLimits (corner_of S k s)
 corner_in_limits S law k s h t = law.corners_in_limits (pick (S.triangle k) s) (law.numbers_in_range k s h t)
 
 pub point_in_limits : (S : SolidModel) → Lawful S → (k s : ℕ) → k < S.triangles → s < 3 → (u : V3) → u ≡ corner_of S k s → InLimits u
 point_in_limits S law k s h t u e = subst InLimits (sym e) (corner_in_limits S law k s h t)
-
--- a triangle below the number of triangles is there
-pub triangle_there : (S : SolidModel) (k : ℕ) (o : Option Triangle) (Q : Triangle → Type 0) → k < S.triangles → MatchOption o (ltb k S.triangles ≡ false) Q → is_some o ≡ true
-triangle_there S k o Q h e = some_since o (ltb k S.triangles ≡ false) Q e (λ f. both_ways (ltb k S.triangles) f (lt-ltb k S.triangles h))
 
 -- and so are its corners
 pub corner_there : {X : Type 0} (S : SolidModel) (k s : ℕ) (t : Triangle) (ot : Option Triangle) (o : Option X) (Q : X → Type 0) → Lawful S → k < S.triangles → s < 3

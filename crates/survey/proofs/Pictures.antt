@@ -1,12 +1,16 @@
 -- Writing a buffer from its front, and the bytes of a picture.
-use Rattle.std.proofs.Common.{◌≡◌, ℕ, zero, suc, ◌+◌, ◌-◌, ◌*◌, ◌/◌, ◌%◌, ◌^◌, ◌<◌, ◌≤◌, true, ltb, ◌⊎◌, List, [], ◌∷◌, ◌++◌, length, get_or, take, drop, set, decimal, sym, refl, ap, ◌∙◌, subst, ap₂, inl, inr, append_assoc, append-nil, add-zero, mul_comm, mul-le-mul_left, add-one, arith, lit<, length-append, length-drop, drop-cons}
-use Rattle.std.proofs.lemmas.List.{set_at, get_or_at, take_more, get_or_append_left, get_or-append_right, get_or-append-add}
+use Rattle.std.proofs.Common.{◌≡◌, ℕ, zero, suc, ◌+◌, ◌-◌, ◌*◌, ◌/◌, ◌%◌, ◌^◌, ◌<◌, ◌≤◌, true, ltb, ◌⊎◌, List, [], ◌∷◌, ◌++◌, length, get_or, take, drop, set, max, pow-suc, decimal, sym, refl, ap, ◌∙◌, subst, ap₂, inl, inr, append_assoc, append-nil, add-zero, mul_comm, mul-le-mul_left, add-one, arith, lit<, length-append, length-drop, drop-cons}
+use native.Mathlib.Nat.{lt_of_not-le, le-max_left, pow-le-pow_right}
+use Rattle.std.proofs.Math.Seq.{take-append_seam, drop-append-add}
+use Rattle.std.proofs.lemmas.List.{take-append-drop, drop-drop, set_at, get_or_at, get_or_append_left, get_or-append_right, get_or-append-add}
 use Rattle.std.proofs.lemmas.Bool.{cond-true, cases_eq, and_parts, ltb-true}
-use Rattle.std.proofs.lemmas.Fmt.{decimal_digit, decimal_step, length-decimal-le}
+use Rattle.std.proofs.lemmas.Fmt.{decimal_digit, decimal_step, decimal_by_steps, decimal_nonempty, length-decimal-le}
 use Rattle.planes.specs.Planes.{PlaneModel, Sound, in_window}
 use Rattle.survey.specs.Survey.{SurveyModel, mark_of, grey_of}
 use Rattle.survey.specs.Account.{Account, Stands}
 use Rattle.survey.specs.Picture.{header_of, grey_at, row_below, rows_below, picture, byte_of, Shows, filled, Appended}
+use Rattle.survey.specs.Pens.{HasRoom, Writes}
+use Rattle.survey.specs.declared.pen.Pen.{Pen}
 use Rattle.survey.proofs.Pixels.{window_inside}
 use Rattle.survey.proofs.Accounts.{tells_truth}
 
@@ -30,6 +34,20 @@ appended_one at byte old h = record {
   bytes = λ e before l is. one_more at byte old e before h l is;
 }
 
+-- several bytes
+pub appended_text : (at : ℕ) (bs old new : List ℕ) → take (at + length bs) new ≡ take at old ++ bs → drop (at + length bs) new ≡ drop (at + length bs) old → Appended at bs old new (at + length bs)
+appended_text at bs old new front back = record { place = refl; bytes = written }
+  where
+    written : (e before : List ℕ) → length before ≡ at → old ≡ filled e before → new ≡ filled e (before ++ bs)
+    written e before l is =
+        let kept : take at old ≡ before = ap₂ take (sym l) is ∙ take-append_seam before (drop (length before) e) in
+        let rest : drop (at + length bs) old ≡ drop (length (before ++ bs)) e
+        = ap₂ (λ (n : ℕ) (o : List ℕ). drop (n + length bs) o) (sym l) is
+        ∙ drop-append-add before (drop (length before) e) (length bs)
+        ∙ drop-drop (length bs) (length before) e
+        ∙ ap (λ (n : ℕ). drop n e) (sym (length-append before bs)) in
+        sym (take-append-drop (at + length bs) new) ∙ ap₂ ◌++◌ (front ∙ ap (λ (x : List ℕ). x ++ bs) kept) (back ∙ rest)
+
 -- nothing
 pub appended_none : (at : ℕ) (old : List ℕ) → Appended at [] old old at
 appended_none at old = record { place = sym (add-zero at); bytes = λ e before l is. is ∙ ap (filled e) (sym (append-nil before)) }
@@ -43,14 +61,55 @@ appended_more at xs ys old mid new p q a b = record {
       ∙ ap (filled e) (append_assoc before xs ys);
 }
 
--- a text, byte by byte
-pub appended_byte : (at i : ℕ) (text old mid new : List ℕ) (p q : ℕ) → i < length text → Appended at (take i text) old mid p → Appended p (get_or text i 0 ∷ []) mid new q → Appended at (take (i + 1) text) old new q
-appended_byte at i text old mid new p q h a b =
-    subst (λ (t : List ℕ). Appended at t old new q) (sym (take_more text i 0 h)) (appended_more at (take i text) (get_or text i 0 ∷ []) old mid new p q a b)
+-- ---- what a pen writes: nothing, and one part after another
+pub writes_none : (p : Pen) → Writes p [] p
+writes_none p = record { size = refl; written = appended_none p.at p.buffer.now }
+
+pub writes_more : (p q r : Pen) (xs ys : List ℕ) → Writes p xs q → Writes q ys r → Writes p (xs ++ ys) r
+writes_more p q r xs ys a b = record { size = b.size ∙ a.size; written = appended_more p.at xs ys p.buffer.now q.buffer.now r.buffer.now q.at r.at a.written b.written }
+
+-- the digits of a number but for the last, which are none for a single one
+abbrev pub Leads : Pen → Pen → ℕ → Type 0
+Leads p q n = (ds : List ℕ) × (Writes p ds q × (ds ++ ((48 + n % 10) ∷ []) ≡ decimal n))
+
+pub leads_none : (p q : Pen) (n : ℕ) → n < 10 → q ≡ p → Leads p q n
+leads_none p q n h e =
+    let d : n % 10 ≡ n = omega arith in
+    ([], (subst (λ (x : Pen). Writes p [] x) (sym e) (writes_none p), ap (λ (i : ℕ). (48 + i) ∷ []) d ∙ sym (decimal_digit n h)))
+
+pub leads_some : (p q r : Pen) (n : ℕ) → 10 ≤ n → n < 2 ^ 64 → q ≡ r → Writes p (decimal (n / 10)) r → Leads p q n
+leads_some p q r n h k e a = (decimal (n / 10), (subst (λ (x : Pen). Writes p (decimal (n / 10)) x) (sym e) a, sym (decimal_step n h k)))
+
+pub leads_room : (p q : Pen) (n : ℕ) → Leads p q n → HasRoom (length (decimal n)) p → HasRoom 1 q
+leads_room p q n (ds, (a, e)) h =
+    let l : length (decimal n) ≡ length ds + 1 = ap length (sym e) ∙ length-append ds ((48 + n % 10) ∷ []) in
+    omega (arith, a.size, a.written.place)
+
+pub leads_writes : (p q r : Pen) (n : ℕ) → Leads p q n → Writes q ((48 + n % 10) ∷ []) r → Writes p (decimal n) r
+leads_writes p q r n (ds, (a, e)) b = subst (λ (bs : List ℕ). Writes p bs r) e (writes_more p q r ds ((48 + n % 10) ∷ []) a b)
 
 -- ---- numbers
-pub length-digit : (n : ℕ) → n < 10 → 1 ≡ length (decimal n)
-length-digit n h = sym (ap length (decimal_digit n h))
+-- a number is below the power of ten that has as many zeros as it has digits
+below_power : (n : ℕ) → n < 2 ^ 64 → n < 10 ^ length (decimal n)
+below_power = decimal_by_steps (λ n ds. n < 10 ^ length ds) (λ n h. h) more
+  where
+    more : (n : ℕ) (ds : List ℕ) → 10 ≤ n → n / 10 < 10 ^ length ds → n < 10 ^ length (ds ++ ((48 + n % 10) ∷ []))
+    more n ds h k =
+        let e : 10 ^ length (ds ++ ((48 + n % 10) ∷ [])) ≡ 10 ^ length ds * 10
+        = ap (λ (i : ℕ). 10 ^ i) (length-append ds ((48 + n % 10) ∷ []) ∙ add-one (length ds)) ∙ pow-suc 10 (length ds) in
+        omega (arith, e)
+
+-- so its length is one more than the power of ten that it reaches
+pub length-power : (n k : ℕ) → n < 2 ^ 16 → 10 ^ k ≤ max n 1 → max n 1 < 10 * 10 ^ k → k + 1 ≡ length (decimal n)
+length-power n k h low high =
+    let most = le-max_left n 1 in
+    let tens : 10 ^ (k + 1) ≡ 10 ^ k * 10 = ap (λ (i : ℕ). 10 ^ i) (add-one k) ∙ pow-suc 10 k in
+    let few : length (decimal n) ≤ k + 1 = length-decimal-le (k + 1) n (omega arith) (omega (arith, tens)) (omega arith) in
+    let some : 0 < length (decimal n) = decimal_nonempty n (omega arith) in
+    let below : n < 10 ^ length (decimal n) = below_power n (omega arith) in
+    let over : 10 ^ 1 ≤ 10 ^ length (decimal n) = pow-le-pow_right (lit< tt) some in
+    let many : k < length (decimal n) = lt_of_not-le (λ (g : length (decimal n) ≤ k). let under : 10 ^ length (decimal n) ≤ 10 ^ k = pow-le-pow_right (lit< tt) g in omega (arith, low, below, over, under)) in
+    omega arith
 
 pub length-step : (n : ℕ) → 10 ≤ n → n < 2 ^ 64 → length (decimal (n / 10)) + 1 ≡ length (decimal n)
 length-step n h k = sym (ap length (decimal_step n h k) ∙ length-append (decimal (n / 10)) ((48 + n % 10) ∷ []))
@@ -99,19 +158,17 @@ pub row_fits : (w r n at size : ℕ) → n < r → at + w * r ≤ size → at + 
 row_fits w r n at size h k = let p : w * suc n ≤ w * r = mul-le-mul_left w h in omega arith
 
 -- a row, pixel by pixel, and the rows
-pub appended_pixel : (m : PlaneModel) (t l k at : ℕ) (old mid new : List ℕ) (p q : ℕ) → Appended at (row_below m t l k) old mid p → Appended p (grey_at m t k l ∷ []) mid new q → Appended at (row_below m t l (k + 1)) old new q
-appended_pixel m t l k at old mid new p q a b =
-    subst (λ (n : ℕ). Appended at (row_below m t l n) old new q) (sym (add-one k)) (appended_more at (row_below m t l k) (grey_at m t k l ∷ []) old mid new p q a b)
+pub writes_pixel : (p q r : Pen) (m : PlaneModel) (t l k : ℕ) → Writes p (row_below m t l k) q → Writes q (grey_at m t k l ∷ []) r → Writes p (row_below m t l (k + 1)) r
+writes_pixel p q r m t l k a b = subst (λ (n : ℕ). Writes p (row_below m t l n) r) (sym (add-one k)) (writes_more p q r (row_below m t l k) (grey_at m t k l ∷ []) a b)
 
-pub appended_row : (m : PlaneModel) (t l at : ℕ) (old mid new : List ℕ) (p q : ℕ) → Appended at (rows_below m t l) old mid p → Appended p (row_below m t l m.width) mid new q → Appended at (rows_below m t (l + 1)) old new q
-appended_row m t l at old mid new p q a b =
-    subst (λ (n : ℕ). Appended at (rows_below m t n) old new q) (sym (add-one l)) (appended_more at (rows_below m t l) (row_below m t l m.width) old mid new p q a b)
+pub writes_row : (p q r : Pen) (m : PlaneModel) (t l : ℕ) → Writes p (rows_below m t l) q → Writes q (row_below m t l m.width) r → Writes p (rows_below m t (l + 1)) r
+writes_row p q r m t l a b = subst (λ (n : ℕ). Writes p (rows_below m t n) r) (sym (add-one l)) (writes_more p q r (rows_below m t l) (row_below m t l m.width) a b)
 
 -- the header and then the rows
-pub appended_picture : (m : PlaneModel) (t w r : ℕ) (old mid new : List ℕ) (p q : ℕ) → w ≡ m.width → r ≡ m.rows → Appended 0 (header_of w r) old mid p → Appended p (rows_below m t m.rows) mid new q → Appended 0 (picture m t) old new q
-appended_picture m t w r old mid new p q e f a b =
-    let h = subst (λ (i : ℕ). Appended 0 (header_of i m.rows) old mid p) e (subst (λ (j : ℕ). Appended 0 (header_of w j) old mid p) f a) in
-    appended_more 0 (header_of m.width m.rows) (rows_below m t m.rows) old mid new p q h b
+pub writes_picture : (p q r : Pen) (m : PlaneModel) (t w h : ℕ) → w ≡ m.width → h ≡ m.rows → Writes p (header_of w h) q → Writes q (rows_below m t m.rows) r → Writes p (picture m t) r
+writes_picture p q r m t w h e f a b =
+    writes_more p q r (header_of m.width m.rows) (rows_below m t m.rows)
+    (subst (λ (i : ℕ). Writes p (header_of i m.rows) q) e (subst (λ (j : ℕ). Writes p (header_of w j) q) f a)) b
 
 pub picture_written : (bs old new : List ℕ) (q : ℕ) → Appended 0 bs old new q → new ≡ filled old bs
 picture_written bs old new q a = a.bytes old [] refl refl

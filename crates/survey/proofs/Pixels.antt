@@ -1,6 +1,6 @@
 -- Planes of one shape, and where their windows lie.
-use Rattle.std.proofs.Common.{◌≡◌, ℕ, true, cond, ◌&&◌, ltb, leb, Some, None, Option, refl, ◌∙◌, arith}
-use Rattle.std.proofs.lemmas.Bool.{and_parts, and_from, ltb-true, lt-ltb, cond-true}
+use Rattle.std.proofs.Common.{◌≡◌, ℕ, true, ◌&&◌, ltb, leb, refl, ◌∙◌, arith}
+use Rattle.std.proofs.lemmas.Bool.{and_parts, and_from, ltb-true, lt-ltb}
 use Rattle.planes.specs.Planes.{PlaneModel, Sound, SameShape, inside, in_window}
 use Rattle.survey.specs.Survey.{shape_of}
 
@@ -47,7 +47,3 @@ window_inside m s k l h =
     let a = s.columns in
     let b = s.lines in
     and_from (ltb k m.width) (ltb l m.rows) (lt-ltb k m.width (omega arith)) (lt-ltb l m.rows (omega arith))
-
--- what a plane answers for the count of a pixel in its window
-pub count_there : (m : PlaneModel) → Sound m → (k l : ℕ) → in_window m k l ≡ true → (o : Option ℕ) → o ≡ cond (inside m k l) (Some (m.count k l)) None → o ≡ Some (m.count k l)
-count_there m s k l w o e = e ∙ cond-true (inside m k l) (Some (m.count k l)) None (window_inside m s k l w)

@@ -1,12 +1,10 @@
 -- The faces of the shadow volumes of corners within their limits, under a lawful run, can be drawn: near cap, far cap and walls.
-use Rattle.std.proofs.Common.{◌≡◌, ℕ, ◌^◌, ◌≤◌, Bool, true, ◌&&◌, List, [], ◌∷◌, ℤ, pos, neg_ℤ, nat_abs, ◌≤ℤ◌, ◌<ℤ◌, sym, refl, ap, ◌∙◌, subst, ap₂, le_trans, div-le_self, arith, lit<, lit≤, w64}
+use Rattle.std.proofs.Common.{◌≡◌, ℕ, ◌^◌, ◌≤◌, Bool, true, ◌&&◌, List, [], ◌∷◌, ℤ, pos, neg_ℤ, nat_abs, ◌≤ℤ◌, ◌<ℤ◌, sym, refl, ap, ◌∙◌, subst, le_trans, div-le_self, arith, lit≤}
 use lib.Signed.{lt_z}
-use Rattle.std.specs.Int.{int_wrap}
 use Rattle.std.proofs.lemmas.Int.{ints}
 use Rattle.algebra.proofs.Ring.{Expr, var, num, ◌⊖◌, at, eval, norm, con, ring}
 use Rattle.algebra.proofs.Bounds.{Caps, cap, bound, abs-within, abs-of_range}
 use Rattle.geometry.specs.Vectors.{V3, vector, plus, minus, times, dot, cross}
-use Rattle.geometry.specs.Machine.{wrapped3}
 use Rattle.geometry.specs.Limits.{InLimits, LawfulRun}
 use Rattle.geometry.specs.Strikes.{normal}
 use Rattle.std.proofs.lemmas.Bool.{and_parts}
@@ -14,12 +12,11 @@ use Rattle.geometry.specs.Signs.{is_positive, is_negative}
 use Rattle.geometry.specs.Perturbed.{Perturbed, whole, ◌+P◌, positive, negative, sign_p}
 use Rattle.geometry.proofs.Perturbed.{positive_is, negative_is, positive_add, negative_add}
 use Rattle.geometry.proofs.Expressions.{E3, e3, space, eplus, eminus, etimes, edot, ecross, enormal}
-use Rattle.volumes.specs.Faces.{Sample, Face, receiver, triangle, near_cap, far_cap, wall, covers_up, covers_down, all_positive, all_negative}
+use Rattle.volumes.specs.Faces.{Sample, receiver, triangle, near_cap, far_cap, wall, covers_up, covers_down, all_positive, all_negative}
 use Rattle.volumes.specs.Extent.{reach, extent}
 use Rattle.volumes.proofs.Identities.{side, near_sum, wall_sum}
 use Rattle.volumes.proofs.FaceLines.{three_plus, three_minus}
 use Rattle.survey.specs.Raster.{Near, origin, Drawable}
-use Rattle.survey.proofs.TiltLaws.{exact, difference_exact}
 
 -- the parts of a conjunction
 and_l : (a b : Bool) → (a && b) ≡ true → a ≡ true
@@ -225,18 +222,3 @@ wall_drawable u v d lu lv ld =
     }
 
 -- ---- the triangle as the code makes it, by wrapping arithmetic
-cross_exact : (n r : V3) → Near (2 ^ 29) n → r ≡ wrapped3 n → r ≡ n
-cross_exact n r h e =
-    e
-    ∙ ap (λ (x : ℤ). vector x (int_wrap w64 n.y) (int_wrap w64 n.z)) (exact n.x (2 ^ 29) h.x (lit< tt))
-    ∙ ap₂ (λ (y z : ℤ). vector n.x y z) (exact n.y (2 ^ 29) h.y (lit< tt)) (exact n.z (2 ^ 29) h.z (lit< tt))
-
-pub triangle_is : (a b c a' b' c' s t n : V3) → InLimits a → InLimits b → InLimits c → a' ≡ a → b' ≡ b → c' ≡ c → s ≡ wrapped3 (minus b' a') → t ≡ wrapped3 (minus c' a') → n ≡ wrapped3 (cross s t)
-    → ◌≡◌ {A = Face} record { first = a'; others = b' ∷ c' ∷ []; normal = n } (triangle a b c)
-triangle_is a b c a' b' c' s t n la lb lc ea eb ec es et en =
-    let z : V3 = vector (pos 0) (pos 0) (pos 0) in
-    let s' : s ≡ minus b a = difference_exact b a s 8192 8192 (corner_near b lb) (corner_near a la) (lit< tt) (es ∙ ap₂ (λ (x y : V3). wrapped3 (minus x y)) eb ea) in
-    let t' : t ≡ minus c a = difference_exact c a t 8192 8192 (corner_near c lc) (corner_near a la) (lit< tt) (et ∙ ap₂ (λ (x y : V3). wrapped3 (minus x y)) ec ea) in
-    let n' : n ≡ normal a b c
-    = cross_exact (normal a b c) n (normal_is 0 z a b c (lit≤ tt) still (corner_near a la) (corner_near b lb) (corner_near c lc)) (en ∙ ap₂ (λ (x y : V3). wrapped3 (cross x y)) s' t') in
-    cc

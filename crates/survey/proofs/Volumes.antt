@@ -88,9 +88,6 @@ partner_is S q o r h e f =
     let g : o ≡ Some (S.partner q) = e ∙ cond-true (ltb q (places S)) (Some (S.partner q)) None (lt-ltb q (places S) h) in
     cc
 
-pub partner_triangle : (S : SolidModel) → Lawful S → (q r : ℕ) → q < places S → r ≡ S.partner q → r / 3 < S.triangles
-partner_triangle S law q r h e = place_triangle S r (subst (λ (t : ℕ). t < places S) (sym e) (law.partner_in_range q h))
-
 -- a wall on the silhouette, and none elsewhere
 pub wall_drawn : (m n : PlaneModel) (S : SolidModel) (d : V3) (q r : ℕ) (f : Face) (b : Bool) → r ≡ S.partner q → b ≡ sunward_at S d (r / 3) → b ≡ false → f ≡ wall_at S d q → Drawn m f n → Tallied m (wall_on S d q) n
 wall_drawn m n S d q r f b e s fails w drawn =
@@ -105,21 +102,6 @@ wall_left_out m S d q r b sound e s is =
     tallied_same m m (λ _ _. pos 0) (wall_on S d q) (λ p z. sym (cond-true (sunward_at S d (S.partner q / 3)) (pos 0) (contribution (wall_at S d q) p z) inner)) (tallied_none m sound)
 
 -- ---- the three sides of triangle k
-pub start_is : (S : SolidModel) (k s q : ℕ) (u : V3) → s < 3 → q ≡ 3 * k + s → u ≡ corner_of S k s → u ≡ S.corner (start_of S q)
-start_is S k s q u h e p =
-    let a : k ≡ q / 3 = omega arith in
-    let b : s ≡ q % 3 = omega arith in
-    p ∙ ap₂ (λ (i j : ℕ). corner_of S i j) a b
-
-pub end_is : (S : SolidModel) (k s t q : ℕ) (u : V3) → s < 3 → q ≡ 3 * k + s → t ≡ (s + 1) % 3 → u ≡ corner_of S k t → u ≡ S.corner (end_of S q)
-end_is S k s t q u h e f p =
-    let a : k ≡ q / 3 = omega arith in
-    let b : t ≡ (q % 3 + 1) % 3 = omega arith in
-    p ∙ ap₂ (λ (i j : ℕ). corner_of S i j) a b
-
-pub place_below : (S : SolidModel) (k s q : ℕ) → k < S.triangles → s < 3 → q ≡ 3 * k + s → q < places S
-place_below S k s q h t e = omega arith
-
 pub walls_tallied : (m n o r : PlaneModel) (S : SolidModel) (d : V3) (k : ℕ) → Sound m
     → Tallied m (wall_on S d (3 * k)) n → Tallied n (wall_on S d (3 * k + 1)) o → Tallied o (wall_on S d (3 * k + 2)) r → Tallied m (walls_of S d k) r
 walls_tallied m n o r S d k sound a b c =

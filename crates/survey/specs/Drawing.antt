@@ -3,14 +3,13 @@ use Rattle.std.specs.Prelude.{◌≡◌, ℕ, cond, ◌||◌, ℤ, pos, ◌+ℤ�
 use Rattle.algebra.specs.Counts.{mod_z}
 use Rattle.algebra.specs.Maxima.{raised_by}
 use Rattle.geometry.specs.Vectors.{V3}
-use Rattle.geometry.specs.Units.{sample_at}
-use Rattle.volumes.specs.Faces.{Sample, Face, triangle, covers_up, covers_down, contribution}
+use Rattle.volumes.specs.Faces.{Sample, pixel_sample, Face, triangle, covers_up, covers_down, contribution}
 use Rattle.volumes.specs.Heights.{raised_to}
 use Rattle.planes.specs.Planes.{PlaneModel, SameShape, in_window}
 
 -- the sample of the pixel in column k and row l
 abbrev pub sample_of : ℕ → ℕ → Sample
-sample_of k l = record { x = sample_at k; y = sample_at l }
+sample_of k l = pixel_sample k l
 
 -- each pixel of the window counts what the face contributes at its receiver, modulo the modulus; all else is kept
 pub record Drawn (m : PlaneModel) (f : Face) (n : PlaneModel) : Type 0 where

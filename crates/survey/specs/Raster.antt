@@ -27,6 +27,13 @@ AllNear b (u ∷ us) = Near b u × AllNear b us
 abbrev pub origin : V3
 origin = vector (pos 8) (pos 8) (pos 0)
 
+-- the numbers of a plane through u with the normal n are within bounds, and its normal, seen from the side to which it looks, rises
+pub record Inclined (rise : ℤ) (n u : V3) : Type 0 where
+  pub rises : pos 0 <ℤ rise
+  pub normal : Near (2 ^ 40) n
+  pub corner : Near (2 ^ 25) u
+  pub offset : unsigned_abs (dot n (minus origin u)) ≤ 2 ^ 58
+
 -- a face whose numbers are within bounds, and whose normal tells which way it faces
 pub record Drawable (f : Face) : Type 0 where
   pub corners : AllNear (2 ^ 25) (f.first ∷ f.others)

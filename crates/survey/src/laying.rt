@@ -6,7 +6,7 @@ ghost use Rattle.survey.specs.Refusals.{is_ground, begin_refusal, lay_refusal};
 ghost use Rattle.survey.specs.Changes.{Begun, Laid};
 ghost use Rattle.survey.specs.Account.{bare, Stands, Undisturbed, CarriesLay};
 
-use crate::corners::corners_of;
+use crate::corners::Part;
 use crate::raster::lay_triangle;
 use crate::state::{Casting, Laying, Shape, has_pixels};
 use geometry::limits::is_between;
@@ -46,8 +46,9 @@ fn lay_triangles<P: Plane, S: Solid>(plane: &mut P, solid: &S)
     ensures names { P.Plane.names plane.new ≡ P.Plane.names plane.old }
 {
     for number in 0..solid.triangles() {
-        let corners = corners_of(solid, number);
-        lay_triangle(plane, corners.a, corners.b, corners.c);
+        let part = Part { solid, number };
+        let facet = part.facet();
+        lay_triangle(plane, facet);
     }
 }
 

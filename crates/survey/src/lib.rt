@@ -6,6 +6,7 @@ mod corners;
 pub mod laying;
 mod light;
 pub mod mark;
+mod pen;
 pub mod picture;
 mod raster;
 pub mod reading;

@@ -1,29 +1,30 @@
 // The light of a cast.
-ghost use Rattle.std.specs.Prelude.{◌≡◌, false, MatchResult};
+ghost use Rattle.std.specs.Prelude.{◌≡◌, true, false, MatchResult};
 ghost use Rattle.geometry.specs.Light.{run_of};
-ghost use Rattle.geometry.specs.Limits.{in_run_limits};
-ghost use Rattle.survey.specs.Lights.{LightOf};
+ghost use Rattle.geometry.specs.Limits.{in_run_limits, LawfulRun};
+ghost use Rattle.geometry.specs.Machine.{vector_of};
+ghost use Rattle.volumes.specs.Extent.{extent as extent_along};
 
 use geometry::light::Run;
 use geometry::refusal::Refusal;
 use geometry::vector::Vector;
 use volumes::reach::extent;
 
-// The way the light travels, and how far a triangle is swept along it to make its shadow volume.
+// The way the light travels, which is within its limits, and how far a triangle is swept along it to make its shadow volume.
 #[derive(Clone, Copy)]
 pub(crate) struct Light {
     pub(crate) run: Run,
     pub(crate) extent: Vector,
+    ghost falls: { LawfulRun (run_of run) },
+    ghost swept: { vector_of extent ≡ extent_along (run_of run) },
 }
 
 impl Light {
     // The light of a run, or a refusal where that is outside its limits.
     pub(crate) fn of(run: Run) -> Result<Light, Refusal>
-        ensures { MatchResult result (λ light. LightOf run light) (λ why. (why ≡ Refusal.Run) × (in_run_limits (run_of run) ≡ false)) }
+        ensures { MatchResult result (λ light. (light.run ≡ run) × (in_run_limits (run_of run) ≡ true)) (λ why. (why ≡ Refusal.Run) × (in_run_limits (run_of run) ≡ false)) }
     {
-        match extent(run) {
-            Ok(extent) => Ok(Light { run, extent }),
-            Err(refusal) => Err(refusal),
-        }
+        let extent = extent(run)?;
+        Ok(Light { run, extent })
     }
 }

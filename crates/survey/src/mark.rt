@@ -26,11 +26,13 @@ impl Mark {
             Mark::Unsure
         }
     }
+}
 
-    // The grey of the mark.
-    pub fn grey(self) -> u8
-        ensures { result ≡ grey_of self }
-    {
-        self as u8
+// The grey of a mark.
+impl From<Mark> for u8 {
+    ghost from_gives = { λ mark grey. grey ≡ grey_of mark };
+
+    fn from(mark: Mark) -> u8 {
+        mark as u8
     }
 }

@@ -5,8 +5,10 @@ ghost use Rattle.planes.specs.Planes.{in_window};
 ghost use Rattle.survey.specs.Survey.{casting_of, fits};
 ghost use Rattle.survey.specs.Refusals.{draw_refusal};
 ghost use Rattle.survey.specs.Account.{Account, Stands};
-ghost use Rattle.survey.specs.Picture.{header_of, grey_at, row_below, rows_below, picture, byte_of, Shows, Appended};
+ghost use Rattle.survey.specs.Picture.{header_of, grey_at, row_below, rows_below, picture, byte_of, Shows};
+ghost use Rattle.survey.specs.Pens.{HasRoom, Writes};
 
+use crate::pen::Pen;
 use crate::reading::look;
 use crate::state::Casting;
 use geometry::refusal::Refusal;
@@ -20,11 +22,7 @@ const OUTSIDE: u8 = 64;
 fn digits(number: u16) -> usize
     ensures { result ≡ length (decimal number) }
 {
-    if number < 10 {
-        1
-    } else {
-        digits(number / 10) + 1
-    }
+    number.max(1).ilog10() as usize + 1
 }
 
 // How many bytes the picture of a plane has.
@@ -34,87 +32,54 @@ fn picture_length(width: u16, rows: u16) -> usize
     9 + digits(width) + digits(rows) + width as usize * rows as usize
 }
 
-// Writes one byte, and answers the place behind it.
-fn put(buffer: &mut [u8], at: usize, byte: u8) -> usize
-    requires { at + 1 ≤ length buffer.old }
-    ensures { Appended at (byte ∷ []) buffer.old buffer.new result }
-{
-    buffer[at] = byte;
-    at + 1
-}
-
-// Writes a text.
-fn put_text(buffer: &mut [u8], at: usize, text: &[u8]) -> usize
-    requires { at + length text.now ≤ length buffer.old }
-    ensures { Appended at text.now buffer.old buffer.new result }
-{
-    let mut place = at;
-    for byte in text {
-        place = put(buffer, place, *byte);
-    }
-    place
-}
-
-// Writes a number by its digits.
-fn put_number(buffer: &mut [u8], at: usize, number: u16) -> usize
-    requires { at + length (decimal number) ≤ length buffer.old }
-    ensures { Appended at (decimal number) buffer.old buffer.new result }
-{
-    if number < 10 {
-        put(buffer, at, b'0' + number as u8)
-    } else {
-        let place = put_number(buffer, at, number / 10);
-        put(buffer, place, b'0' + (number % 10) as u8)
-    }
-}
-
-// Writes the header of a picture.
-fn put_header(buffer: &mut [u8], width: u16, rows: u16) -> usize
-    requires { length (header_of width rows) ≤ length buffer.old }
-    ensures { Appended 0 (header_of width rows) buffer.old buffer.new result }
-{
-    let at = put_text(buffer, 0, b"P5\n");
-    let at = put_number(buffer, at, width);
-    let at = put_text(buffer, at, b" ");
-    let at = put_number(buffer, at, rows);
-    put_text(buffer, at, b"\n255\n")
-}
-
 // The grey of a pixel: that of its mark, if it is in the window.
 fn grey_at<P: Plane>(survey: &Casting, plane: &P, column: Column, row: Row) -> u8
     requires { fits (casting_of survey.now) (P.Plane.model plane.now) ≡ true }
     ensures { result ≡ grey_at (P.Plane.model plane.now) (casting_of survey.now).total column.0 row.0 }
 {
     match look(survey, plane, column, row) {
-        Ok((mark, _count, _total)) => mark.grey(),
+        Ok((mark, _count, _total)) => mark.into(),
         Err(_) => OUTSIDE,
     }
 }
 
-// Writes a row of pixels.
-fn put_row<P: Plane>(buffer: &mut [u8], at: usize, survey: &Casting, plane: &P, row: Row) -> usize
-    requires fits { fits (casting_of survey.now) (P.Plane.model plane.now) ≡ true }
-    requires room { at + (P.Plane.model plane.now).width ≤ length buffer.old }
-    ensures { Appended at (row_below (P.Plane.model plane.now) (casting_of survey.now).total row.0 (P.Plane.model plane.now).width) buffer.old buffer.new result }
-{
-    let mut place = at;
-    for column in 0..plane.width() {
-        place = put(buffer, place, grey_at(survey, plane, Column(column), row));
+impl<'a> Pen<'a> {
+    // Writes the header of a picture.
+    fn put_header(&mut self, width: u16, rows: u16)
+        requires { HasRoom (length (header_of width rows)) self.old }
+        ensures same { self.new.buffer.ghost_name ≡ self.old.buffer.ghost_name }
+        ensures writes { Writes self.old (header_of width rows) self.new }
+    {
+        self.put_text(b"P5\n");
+        self.put_number(width);
+        self.put_text(b" ");
+        self.put_number(rows);
+        self.put_text(b"\n255\n");
     }
-    place
-}
 
-// Writes all rows.
-fn put_rows<P: Plane>(buffer: &mut [u8], at: usize, survey: &Casting, plane: &P) -> usize
-    requires fits { fits (casting_of survey.now) (P.Plane.model plane.now) ≡ true }
-    requires room { at + (P.Plane.model plane.now).width * (P.Plane.model plane.now).rows ≤ length buffer.old }
-    ensures { Appended at (rows_below (P.Plane.model plane.now) (casting_of survey.now).total (P.Plane.model plane.now).rows) buffer.old buffer.new result }
-{
-    let mut place = at;
-    for row in 0..plane.rows() {
-        place = put_row(buffer, place, survey, plane, Row(row));
+    // Writes a row of pixels.
+    fn put_row<P: Plane>(&mut self, survey: &Casting, plane: &P, row: Row)
+        requires fits { fits (casting_of survey.now) (P.Plane.model plane.now) ≡ true }
+        requires room { HasRoom (P.Plane.model plane.now).width self.old }
+        ensures same { self.new.buffer.ghost_name ≡ self.old.buffer.ghost_name }
+        ensures writes { Writes self.old (row_below (P.Plane.model plane.now) (casting_of survey.now).total row.0 (P.Plane.model plane.now).width) self.new }
+    {
+        for column in 0..plane.width() {
+            self.put(grey_at(survey, plane, Column(column), row));
+        }
     }
-    place
+
+    // Writes all rows.
+    fn put_rows<P: Plane>(&mut self, survey: &Casting, plane: &P)
+        requires fits { fits (casting_of survey.now) (P.Plane.model plane.now) ≡ true }
+        requires room { HasRoom ((P.Plane.model plane.now).width * (P.Plane.model plane.now).rows) self.old }
+        ensures same { self.new.buffer.ghost_name ≡ self.old.buffer.ghost_name }
+        ensures writes { Writes self.old (rows_below (P.Plane.model plane.now) (casting_of survey.now).total (P.Plane.model plane.now).rows) self.new }
+    {
+        for row in 0..plane.rows() {
+            self.put_row(survey, plane, Row(row));
+        }
+    }
 }
 
 // Draws the picture of a survey to the front of a buffer, and answers its length. What is behind it is kept.
@@ -132,6 +97,8 @@ pub fn draw<P: Plane>(survey: &Casting, plane: &P, buffer: &mut [u8]) -> Result<
     if buffer.len() < picture_length(width, rows) {
         return Err(Refusal::Picture);
     }
-    let at = put_header(buffer, width, rows);
-    Ok(put_rows(buffer, at, survey, plane))
+    let mut pen = Pen { buffer, at: 0 };
+    pen.put_header(width, rows);
+    pen.put_rows(survey, plane);
+    Ok(pen.at)
 }

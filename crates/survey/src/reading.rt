@@ -17,7 +17,7 @@ fn is_in_window<P: Plane>(plane: &P, column: Column, row: Row) -> bool
     ensures { result ≡ in_window (P.Plane.model plane.now) column.0 row.0 }
 {
     let window = plane.window();
-    window.c0.0 <= column.0 && column.0 < window.c1.0 && window.r0.0 <= row.0 && row.0 < window.r1.0
+    (window.c0.0..window.c1.0).contains(&column.0) && (window.r0.0..window.r1.0).contains(&row.0)
 }
 
 // The count of a pixel in the window of a plane.

@@ -2,7 +2,8 @@
 ghost use Rattle.std.specs.Prelude.{◌≡◌, ℕ, ℤ, pos, if◌then◌else◌, Some, None, Option, int_lt};
 ghost use Rattle.planes.specs.Planes.{same, is_height};
 ghost use Rattle.survey.specs.Raster.{Painted};
-ghost use Rattle.survey.specs.Tilts.{value_at, least_over, turn_of};
+ghost use Rattle.survey.specs.Tilts.{turn_of};
+ghost use Rattle.survey.specs.RasterTilts.{value_on, least_on};
 
 use crate::raster::facing::Facing;
 use crate::raster::tilts::Tilt;
@@ -32,15 +33,17 @@ pub struct Crossing {
 impl Brush for Crossing {
     ghost lays = { λ _ _ _. None };
 
-    ghost adds = { λ b i j h. (if int_lt (pos 0) (value_at b.tilt.base b.tilt.column b.tilt.row b.tilt.height i j h) then turn_of b.facing else pos 0) };
+    ghost adds = { λ b i j h. (if int_lt (pos 0) (value_on b.tilt i j h) then turn_of b.facing else pos 0) };
 
     fn touch<P: Plane>(&self, plane: &mut P, column: Column, row: Row) {
-        if let Some(height) = P::height(plane, column, row) {
-            if self.tilt.is_below(column, row, height) {
-                match self.facing {
-                    Facing::Up => P::less(plane, column, row),
-                    Facing::Down => P::more(plane, column, row),
-                }
+        // `plane.height(..)` would be one more call at each pixel: that of the borrowed plane, around the plane's own.
+        let Some(height) = P::height(plane, column, row) else {
+            return;
+        };
+        if self.tilt.is_below(column, row, height) {
+            match self.facing {
+                Facing::Up => plane.less(column, row),
+                Facing::Down => plane.more(column, row),
             }
         }
     }
@@ -53,11 +56,11 @@ pub struct Laying {
 }
 
 impl Brush for Laying {
-    ghost lays = { λ b i j. (if is_height (least_over b.tilt.base b.tilt.column b.tilt.row b.tilt.height i j) then Some (least_over b.tilt.base b.tilt.column b.tilt.row b.tilt.height i j) else None) };
+    ghost lays = { λ b i j. (if is_height (least_on b.tilt i j) then Some (least_on b.tilt i j) else None) };
 
     ghost adds = { λ _ _ _ _. pos 0 };
 
     fn touch<P: Plane>(&self, plane: &mut P, column: Column, row: Row) {
-        P::raise(plane, column, row, self.tilt.least_over(column, row));
+        plane.raise(column, row, self.tilt.least_over(column, row));
     }
 }

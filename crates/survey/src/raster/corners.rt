@@ -1,5 +1,5 @@
 // The corners of faces, seen from above.
-ghost use Rattle.std.specs.Prelude.{◌≡◌, ◌^◌, ◌≤◌, ◌≤ℤ◌, unsigned_abs};
+ghost use Rattle.std.specs.Prelude.{◌≡◌, ◌^◌, ◌≤◌, unsigned_abs};
 ghost use Rattle.geometry.specs.Machine.{vector_of};
 
 use geometry::vector::Vector;
@@ -25,21 +25,5 @@ impl Corner {
             x: point[0],
             y: point[1],
         }
-    }
-
-    // The one of the two that is further up in the plan.
-    pub(crate) fn upper(self, other: Corner) -> Corner
-        ensures first { result.y ≤ℤ self.y }
-        ensures second { result.y ≤ℤ other.y }
-    {
-        if other.y < self.y { other } else { self }
-    }
-
-    // The one of the two that is further down in the plan.
-    pub(crate) fn lower(self, other: Corner) -> Corner
-        ensures first { self.y ≤ℤ result.y }
-        ensures second { other.y ≤ℤ result.y }
-    {
-        if other.y > self.y { other } else { self }
     }
 }

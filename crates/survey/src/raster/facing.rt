@@ -2,6 +2,8 @@
 ghost use Rattle.std.specs.Prelude.{◌≡◌};
 ghost use Rattle.survey.specs.Tilts.{facing_of};
 
+use std::cmp::Ordering;
+
 #[derive(Clone, Copy)]
 pub enum Facing {
     Up,
@@ -13,12 +15,10 @@ impl Facing {
     pub(crate) fn of(z: i64) -> Option<Facing>
         ensures { result ≡ facing_of z }
     {
-        if z > 0 {
-            Some(Facing::Up)
-        } else if z < 0 {
-            Some(Facing::Down)
-        } else {
-            None
+        match z.cmp(&0) {
+            Ordering::Greater => Some(Facing::Up),
+            Ordering::Less => Some(Facing::Down),
+            Ordering::Equal => None,
         }
     }
 }

@@ -1,7 +1,7 @@
 // Sweeping a brush over all pixels that an outline covers.
 ghost use Rattle.std.specs.Prelude.{◌≡◌, ◌&&◌, ◌==◌};
 ghost use Rattle.survey.specs.Raster.{Painted};
-ghost use Rattle.survey.specs.RasterOutlines.{covers, Framed};
+ghost use Rattle.survey.specs.RasterOutlines.{covers};
 ghost use Rattle.survey.specs.Spans.{within};
 
 use crate::raster::brushes::Brush;
@@ -25,7 +25,7 @@ fn sweep_rows<P: Plane, B: Brush + Copy>(plane: &mut P, outline: &Outline, rows:
     ensures after { Painted (P.Plane.model plane.old) (λ k l. within rows.lo rows.hi l && covers outline.now k l) (B.Brush.lays brush) (B.Brush.adds brush) (P.Plane.model plane.new) }
     ensures names { P.Plane.names plane.new ≡ P.Plane.names plane.old }
 {
-    let window = P::window(plane);
+    let window = plane.window();
     let all = Span {
         lo: window.c0.0,
         hi: window.c1.0,
@@ -38,11 +38,10 @@ fn sweep_rows<P: Plane, B: Brush + Copy>(plane: &mut P, outline: &Outline, rows:
 
 // All that the outline covers.
 pub(crate) fn sweep<P: Plane, B: Brush + Copy>(plane: &mut P, outline: &Outline, brush: B)
-    requires { Framed outline.now }
     ensures after { Painted (P.Plane.model plane.old) (covers outline.now) (B.Brush.lays brush) (B.Brush.adds brush) (P.Plane.model plane.new) }
     ensures names { P.Plane.names plane.new ≡ P.Plane.names plane.old }
 {
-    let window = P::window(plane);
+    let window = plane.window();
     let rows = outline.rows(Span {
         lo: window.r0.0,
         hi: window.r1.0,

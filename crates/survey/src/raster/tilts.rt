@@ -1,11 +1,5 @@
 // The planes of faces as functions of column, row and height.
-ghost use Rattle.std.specs.Prelude.{◌≡◌, ℕ, ◌^◌, ◌≤◌, ℤ, pos, neg_ℤ, ◌≤ℤ◌, ◌<ℤ◌, int_lt, unsigned_abs};
-ghost use Rattle.geometry.specs.Machine.{vector_of};
-ghost use Rattle.geometry.specs.Vectors.{minus, dot as scalar};
-ghost use Rattle.volumes.specs.Faces.{receiver};
-ghost use Rattle.survey.specs.Drawing.{sample_of};
-ghost use Rattle.survey.specs.Raster.{Near, origin};
-ghost use Rattle.survey.specs.Tilts.{ground_at, value_at, least_over, turned_by};
+ghost use Rattle.std.specs.Prelude.{◌≡◌, ◌^◌, ◌≤◌, pos, ◌<ℤ◌, unsigned_abs};
 
 use crate::raster::facing::Facing;
 use geometry::units::{Column, Row, Step};
@@ -26,14 +20,20 @@ pub struct Tilt {
 }
 
 impl Tilt {
+    ghost use Rattle.std.specs.Prelude.{◌≡◌, ℕ, ◌^◌, ◌≤◌, ℤ, pos, neg_ℤ, ◌≤ℤ◌, int_lt, unsigned_abs};
+    ghost use Rattle.geometry.specs.Machine.{vector_of};
+    ghost use Rattle.geometry.specs.Vectors.{minus, dot as scalar};
+    ghost use Rattle.volumes.specs.Faces.{receiver};
+    ghost use Rattle.survey.specs.Drawing.{sample_of};
+    ghost use Rattle.survey.specs.Raster.{Inclined};
+    ghost use Rattle.survey.specs.Tilts.{turned_by};
+    ghost use Rattle.survey.specs.RasterTilts.{ground_on, value_on, least_on};
+
     // The plane through u whose normal, which points upwards, is n.
-    pub(crate) fn new(n: Vector, u: Vector) -> Tilt
-        requires rises { pos 0 <ℤ (vector_of n).z }
-        requires normal { Near (2 ^ 40) (vector_of n) }
-        requires corner { Near (2 ^ 25) (vector_of u) }
-        requires offset { unsigned_abs (scalar (vector_of n) (minus origin (vector_of u))) ≤ 2 ^ 58 }
+    fn new(n: Vector, u: Vector) -> Tilt
+        requires { Inclined (vector_of n).z (vector_of n) (vector_of u) }
         ensures height { result.height ≡ (vector_of n).z }
-        ensures is { (i j : ℕ) (h : ℤ) → value_at result.base result.column result.row result.height i j h ≡ scalar (vector_of n) (minus (receiver (sample_of i j) h) (vector_of u)) }
+        ensures is { (i j : ℕ) (h : ℤ) → value_on result i j h ≡ scalar (vector_of n) (minus (receiver (sample_of i j) h) (vector_of u)) }
     {
         Tilt {
             base: dot(n, difference([8, 8, 0], u)),
@@ -45,12 +45,9 @@ impl Tilt {
 
     // The plane through u whose normal is n, which points the way that the face looks.
     pub(crate) fn facing(n: Vector, u: Vector, facing: Facing) -> Tilt
-        requires rises { pos 0 <ℤ turned_by facing (vector_of n).z }
-        requires normal { Near (2 ^ 40) (vector_of n) }
-        requires corner { Near (2 ^ 25) (vector_of u) }
-        requires offset { unsigned_abs (scalar (vector_of n) (minus origin (vector_of u))) ≤ 2 ^ 58 }
+        requires { Inclined (turned_by facing (vector_of n).z) (vector_of n) (vector_of u) }
         ensures height { result.height ≡ turned_by facing (vector_of n).z }
-        ensures is { (i j : ℕ) (h : ℤ) → value_at result.base result.column result.row result.height i j h ≡ turned_by facing (scalar (vector_of n) (minus (receiver (sample_of i j) h) (vector_of u))) }
+        ensures is { (i j : ℕ) (h : ℤ) → value_on result i j h ≡ turned_by facing (scalar (vector_of n) (minus (receiver (sample_of i j) h) (vector_of u))) }
     {
         match facing {
             Facing::Up => Tilt::new(n, u),
@@ -60,7 +57,7 @@ impl Tilt {
 
     // The function at the height 0.
     fn ground(&self, column: Column, row: Row) -> i64
-        ensures is { result ≡ ground_at self.now.base self.now.column self.now.row column.0 row.0 }
+        ensures is { result ≡ ground_on self.now column.0 row.0 }
         ensures near { unsigned_abs result ≤ 2 ^ 62 }
     {
         self.base + self.row * row.0 as i64 + self.column * column.0 as i64
@@ -70,14 +67,14 @@ impl Tilt {
     pub(crate) fn is_below(&self, column: Column, row: Row, height: Step) -> bool
         requires low { neg_ℤ (pos 8192) ≤ℤ height.0 }
         requires high { height.0 ≤ℤ pos 8193 }
-        ensures { result ≡ int_lt (pos 0) (value_at self.now.base self.now.column self.now.row self.now.height column.0 row.0 height.0) }
+        ensures { result ≡ int_lt (pos 0) (value_on self.now column.0 row.0 height.0) }
     {
         self.ground(column, row) + self.height * height.0 > 0
     }
 
     // The least whole height of a pixel that the plane is below.
     pub(crate) fn least_over(&self, column: Column, row: Row) -> Step
-        ensures { result.0 ≡ least_over self.now.base self.now.column self.now.row self.now.height column.0 row.0 }
+        ensures { result.0 ≡ least_on self.now column.0 row.0 }
     {
         let ground = self.ground(column, row);
         let rise = self.height.unsigned_abs();

@@ -1,5 +1,4 @@
-use Rattle.std.proofs.Common.{◌≡◌, ℕ, ◌<◌, refl, ◌∙◌, subst, arith, lit<}
-use Rattle.survey.specs.Changes.{lays_below, Heightened}
+use Rattle.std.proofs.Common.{ℕ, ◌<◌, refl, ◌∙◌, subst, lit<}
 use Rattle.survey.proofs.Limits.{point_in_limits}
 use Rattle.survey.proofs.Steps.{heightened_none, laid_more}
 use Rattle.survey.proofs.laying.lay_triangles.Goals as goal
@@ -10,9 +9,9 @@ lay_triangle-requires g c =
     let law = g.S.Solid.lawful c.args.solid.now in
     let h : c.loop-number.number < S.triangles = subst (λ (n : ℕ). c.loop-number.number < n) c.triangles-number-end.ensures c.loop-number-test.true in
     record {
-      a = point_in_limits S law c.loop-number.number 0 h (lit< tt) _ c.corners_of-corners.ensures.a;
-      b = point_in_limits S law c.loop-number.number 1 h (lit< tt) _ c.corners_of-corners.ensures.b;
-      c = point_in_limits S law c.loop-number.number 2 h (lit< tt) _ c.corners_of-corners.ensures.c;
+      a = point_in_limits S law c.loop-number.number 0 h (lit< tt) _ c.facet-facet.ensures.a;
+      b = point_in_limits S law c.loop-number.number 1 h (lit< tt) _ c.facet-facet.ensures.b;
+      c = point_in_limits S law c.loop-number.number 2 h (lit< tt) _ c.facet-facet.ensures.c;
     }
 
 pub loop-number-init : goal.loop-number-init
@@ -20,15 +19,6 @@ loop-number-init g c = (heightened_none (g.P.Plane.model c.args.plane.now), refl
 
 pub loop-number-preserved : goal.loop-number-preserved
 loop-number-preserved g c = (
-  laid_more _ _ _ (g.S.Solid.model c.args.solid.now) c.loop-number.number _ _ _ c.corners_of-corners.ensures.a c.corners_of-corners.ensures.b c.corners_of-corners.ensures.c c.loop-number.invariant.0 c.lay_triangle.ensures.after,
+  laid_more _ _ _ (g.S.Solid.model c.args.solid.now) c.loop-number.number _ _ _ c.facet-facet.ensures.a c.facet-facet.ensures.b c.facet-facet.ensures.c c.loop-number.invariant.0 c.lay_triangle.ensures.after,
   c.lay_triangle.ensures.names ∙ c.loop-number.invariant.1,
 )
-
-pub returns : goal.returns
-returns g c =
-    let S = g.S.Solid.model c.args.solid.now in
-    let e : c.loop-number.number ≡ S.triangles = omega arith in
-    record {
-      after = subst (λ (n : ℕ). Heightened (g.P.Plane.model c.args.plane.now) (lays_below S n) (g.P.Plane.model c.loop-number.plane)) e c.loop-number.invariant.0;
-      names = c.loop-number.invariant.1;
-    }

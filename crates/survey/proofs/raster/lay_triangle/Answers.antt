@@ -1,78 +1,43 @@
-use Rattle.std.proofs.Common.{◌≡◌, ◌^◌, pos, Some, None, sym, ap, ◌∙◌, subst, lit<, rules}
+use Rattle.std.proofs.Common.{◌≡◌, pos, None, sym, ap, ◌∙◌, subst}
 use Rattle.geometry.specs.Vectors.{V3}
-use Rattle.geometry.specs.Limits.{InLimits}
 use Rattle.geometry.specs.Units.{point_of}
 use Rattle.volumes.specs.Faces.{Face, triangle}
-use Rattle.volumes.specs.Heights.{raised_to}
 use Rattle.volumes.specs.Machine.{face_of}
-use Rattle.survey.specs.Drawing.{sample_of}
 use Rattle.survey.specs.Raster.{Drawable}
 use Rattle.survey.specs.RasterOutlines.{covers}
-use Rattle.survey.specs.Tilts.{least_over, facing_of, covers_by}
-use Rattle.survey.specs.declared.raster.facing.Facing.{Facing}
-use Rattle.survey.specs.declared.raster.tilts.Tilt.{Tilt}
-use Rattle.survey.proofs.TiltLaws.{read}
-use Rattle.survey.proofs.RasterFaces.{rises, other_none, level_up, level_down, least_is, laid_by, laid_none}
+use Rattle.survey.specs.RasterTilts.{least_on}
+use Rattle.survey.specs.Tilts.{facing_of}
+use Rattle.survey.specs.Projections.{Projects}
+use Rattle.survey.proofs.RasterFaces.{other_none, level_up, level_down, least_is, laid_by, laid_none}
 use Rattle.survey.proofs.RasterDrawable.{near_cap_drawable}
 use Rattle.survey.proofs.raster.lay_triangle.Goals as goal
 
--- the face that the code makes of the triangle can be drawn
-can : (f : Face) (a b c : V3) → InLimits a → InLimits b → InLimits c → f ≡ triangle a b c → Drawable f
-can f a b c la lb lc e = subst Drawable (sym e) (near_cap_drawable a b c la lb lc)
+pub of-requires : goal.of-requires
+of-requires g c =
+    let r = c.requires in
+    subst Drawable (sym (c.near_cap-face.ensures.exact r.a r.b r.c)) (near_cap_drawable (point_of c.args.facet.a) (point_of c.args.facet.b) (point_of c.args.facet.c) r.a r.b r.c)
 
-pub outline_of-outline-requires : goal.outline_of-outline-requires
-outline_of-outline-requires g c =
-    (can (face_of c.triangle_of-face.result) (point_of c.args.a) (point_of c.args.b) (point_of c.args.c) c.requires.a c.requires.b c.requires.c c.triangle_of-face.ensures).corners
+pub returns-in-Some-clause-after : goal.returns-in-Some-clause-after
+returns-in-Some-clause-after g c =
+    let u : V3 = point_of c.args.facet.a in
+    let v : V3 = point_of c.args.facet.b in
+    let w : V3 = point_of c.args.facet.c in
+    let r = c.requires in
+    let f : Face = face_of c.near_cap-face.result in
+    let p = c.in-Some.seen in
+    let is : f ≡ triangle u v w = c.near_cap-face.ensures.exact r.a r.b r.c in
+    let seen : Projects (triangle u v w) p = subst (λ (x : Face). Projects x p) is c.in-Some.ensures in
+    laid_by (g.P.Plane.model c.args.plane.now) (g.P.Plane.model c.sweep.new.plane) u v w p.facing (covers p.outline) (least_on p.tilt)
+    (g.P.Plane.sound c.args.plane.now) r.a r.b r.c seen.outline (other_none (triangle u v w) p.facing (near_cap_drawable u v w r.a r.b r.c) seen.facing)
+    (λ k l. least_is p.facing (triangle u v w) p.tilt.base p.tilt.column p.tilt.row p.tilt.height k l seen.facing seen.height (seen.values k l (pos 0)))
+    c.sweep.ensures.after
 
-pub facing-tilt-requires : goal.facing-tilt-requires
-facing-tilt-requires g c =
-    let f : Face = face_of c.triangle_of-face.result in
-    let d : Drawable f = can f (point_of c.args.a) (point_of c.args.b) (point_of c.args.c) c.requires.a c.requires.b c.requires.c c.triangle_of-face.ensures in
-    record {
-      rises = rises f.normal.z c.in-Some.facing (c.in-Some.ensures ∙ ap facing_of (read f.normal.z (2 ^ 40) d.normal.z (lit< tt)));
-      normal = d.normal;
-      corner = d.corners.0;
-      offset = d.offset;
-    }
-
-pub sweep-requires : goal.sweep-requires
-sweep-requires g c = c.outline_of-outline.ensures.framed
-
-pub returns-in-Some : goal.returns-in-Some
-returns-in-Some g c =
-    let u : V3 = point_of c.args.a in
-    let v : V3 = point_of c.args.b in
-    let w : V3 = point_of c.args.c in
-    let f : Face = face_of c.triangle_of-face.result in
-    let s : Facing = c.in-Some.facing in
-    let t : Tilt = c.facing-tilt.result in
-    let is : f ≡ triangle u v w = c.triangle_of-face.ensures in
-    let d : Drawable f = can f u v w c.requires.a c.requires.b c.requires.c is in
-    let e : Some s ≡ facing_of f.normal.z = c.in-Some.ensures ∙ ap facing_of (read f.normal.z (2 ^ 40) d.normal.z (lit< tt)) in
-    record {
-      after =
-          laid_by (g.P.Plane.model c.args.plane.now) (g.P.Plane.model c.sweep.new.plane) u v w s (covers c.outline_of-outline.result)
-          (λ k l. least_over t.base t.column t.row t.height k l)
-          (g.P.Plane.sound c.args.plane.now) c.requires.a c.requires.b c.requires.c
-          (λ k l. c.outline_of-outline.ensures.is k l ∙ ap (λ (x : Face). covers_by s x (sample_of k l)) is)
-          (other_none (triangle u v w) s (near_cap_drawable u v w c.requires.a c.requires.b c.requires.c) (e ∙ ap (λ (x : Face). facing_of x.normal.z) is))
-          (λ k l. least_is s f t.base t.column t.row t.height k l e c.facing-tilt.ensures.height (c.facing-tilt.ensures.is k l (pos 0)) ∙ ap (λ (x : Face). raised_to x (sample_of k l)) is)
-          c.sweep.ensures.after;
-      names = c.sweep.ensures.names;
-    }
-
-pub returns-in_default : goal.returns-in_default
-returns-in_default g c =
-    let u : V3 = point_of c.args.a in
-    let v : V3 = point_of c.args.b in
-    let w : V3 = point_of c.args.c in
-    let f : Face = face_of c.triangle_of-face.result in
-    let is : f ≡ triangle u v w = c.triangle_of-face.ensures in
-    let d : Drawable f = can f u v w c.requires.a c.requires.b c.requires.c is in
-    let d' : Drawable (triangle u v w) = near_cap_drawable u v w c.requires.a c.requires.b c.requires.c in
-    let e : None ≡ facing_of (triangle u v w).normal.z
-    = c.in_default.ensures ∙ ap facing_of (read f.normal.z (2 ^ 40) d.normal.z (lit< tt)) ∙ ap (λ (x : Face). facing_of x.normal.z) is in
-    record {
-      after = laid_none (g.P.Plane.model c.args.plane.now) u v w (level_up (triangle u v w) d' e) (level_down (triangle u v w) d' e);
-      names = search rules;
-    }
+pub returns-in_default-clause-after : goal.returns-in_default-clause-after
+returns-in_default-clause-after g c =
+    let u : V3 = point_of c.args.facet.a in
+    let v : V3 = point_of c.args.facet.b in
+    let w : V3 = point_of c.args.facet.c in
+    let r = c.requires in
+    let d : Drawable (triangle u v w) = near_cap_drawable u v w r.a r.b r.c in
+    let e : None ≡ facing_of (triangle u v w).normal.z = c.in_default.ensures ∙ ap (λ (x : Face). facing_of x.normal.z) (c.near_cap-face.ensures.exact r.a r.b r.c) in
+    laid_none (g.P.Plane.model c.args.plane.now) u v w (level_up (triangle u v w) d e) (level_down (triangle u v w) d e)

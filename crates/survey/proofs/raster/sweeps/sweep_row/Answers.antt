@@ -25,15 +25,11 @@ loop-column-preserved g c =
       search rules,
     )
 
-pub returns : goal.returns
-returns g c =
+pub returns-clause-after : goal.returns-clause-after
+returns-clause-after g c =
     let lo : ℕ = c.args.columns.lo in
     let j : ℕ = c.args.row.0 in
-    record {
-      after =
-          painted_same (g.P.Plane.model c.args.plane.now) (g.P.Plane.model c.loop-column.plane) (λ k l. eqb l j && within lo c.loop-column.column k) (λ k l. eqb l j && within lo c.args.columns.hi k)
-          (g.B.Brush.lays c.args.brush) (g.B.Brush.adds c.args.brush)
-          (λ k l _. ap (λ (b : Bool). eqb l j && b) (same_end lo c.loop-column.column c.args.columns.hi k c.loop-column-test.false c.loop-column.auto.column-end c.loop-column.invariant.2))
-          c.loop-column.invariant.0;
-      names = c.loop-column.invariant.1;
-    }
+    painted_same (g.P.Plane.model c.args.plane.now) (g.P.Plane.model c.loop-column.plane) (λ k l. eqb l j && within lo c.loop-column.column k) (λ k l. eqb l j && within lo c.args.columns.hi k)
+    (g.B.Brush.lays c.args.brush) (g.B.Brush.adds c.args.brush)
+    (λ k l _. ap (λ (b : Bool). eqb l j && b) (same_end lo c.loop-column.column c.args.columns.hi k c.loop-column-test.false c.loop-column.auto.column-end c.loop-column.invariant.2))
+    c.loop-column.invariant.0

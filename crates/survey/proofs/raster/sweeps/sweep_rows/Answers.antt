@@ -37,15 +37,11 @@ loop-row-preserved g c =
       search rules,
     )
 
-pub returns : goal.returns
-returns g c =
+pub returns-clause-after : goal.returns-clause-after
+returns-clause-after g c =
     let lo : ℕ = c.args.rows.lo in
     let out : Outline = c.args.outline.now in
-    record {
-      after =
-          painted_same (g.P.Plane.model c.args.plane.now) (g.P.Plane.model c.loop-row.plane) (λ k l. within lo c.loop-row.row l && covers out k l) (λ k l. within lo c.args.rows.hi l && covers out k l)
-          (g.B.Brush.lays c.args.brush) (g.B.Brush.adds c.args.brush)
-          (λ k l _. ap (λ (b : Bool). b && covers out k l) (same_end lo c.loop-row.row c.args.rows.hi l c.loop-row-test.false c.loop-row.auto.row-end c.loop-row.invariant.2))
-          c.loop-row.invariant.0;
-      names = c.loop-row.invariant.1;
-    }
+    painted_same (g.P.Plane.model c.args.plane.now) (g.P.Plane.model c.loop-row.plane) (λ k l. within lo c.loop-row.row l && covers out k l) (λ k l. within lo c.args.rows.hi l && covers out k l)
+    (g.B.Brush.lays c.args.brush) (g.B.Brush.adds c.args.brush)
+    (λ k l _. ap (λ (b : Bool). b && covers out k l) (same_end lo c.loop-row.row c.args.rows.hi l c.loop-row-test.false c.loop-row.auto.row-end c.loop-row.invariant.2))
+    c.loop-row.invariant.0
