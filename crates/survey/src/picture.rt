@@ -32,14 +32,23 @@ fn picture_length(width: u16, rows: u16) -> usize
     9 + digits(width) + digits(rows) + width as usize * rows as usize
 }
 
-// The grey of a pixel: that of its mark, if it is in the window.
-fn grey_at<P: Plane>(survey: &Casting, plane: &P, column: Column, row: Row) -> u8
-    requires { fits (casting_of survey.now) (P.Plane.model plane.now) ≡ true }
-    ensures { result ≡ grey_at (P.Plane.model plane.now) (casting_of survey.now).total column.0 row.0 }
-{
-    match look(survey, plane, column, row) {
-        Ok((mark, _count, _total)) => mark.into(),
-        Err(_) => OUTSIDE,
+// A survey and the plane that it fits, as their picture shows them.
+#[derive(Drop)]
+struct Scene<'a, P: Plane> {
+    survey: &'a Casting,
+    plane: &'a P,
+    ghost fitting: { fits (casting_of survey.now) (P.Plane.model plane.now) ≡ true },
+}
+
+impl<'a, P: Plane> Scene<'a, P> {
+    // The grey of a pixel: that of its mark, if it is in the window.
+    fn grey_at(&self, column: Column, row: Row) -> u8
+        ensures { result ≡ grey_at (P.Plane.model self.now.plane.now) (casting_of self.now.survey.now).total column.0 row.0 }
+    {
+        match look(self.survey, self.plane, column, row) {
+            Ok((mark, _count, _total)) => mark.into(),
+            Err(_) => OUTSIDE,
+        }
     }
 }
 
@@ -58,26 +67,24 @@ impl<'a> Pen<'a> {
     }
 
     // Writes a row of pixels.
-    fn put_row<P: Plane>(&mut self, survey: &Casting, plane: &P, row: Row)
-        requires fits { fits (casting_of survey.now) (P.Plane.model plane.now) ≡ true }
-        requires room { HasRoom (P.Plane.model plane.now).width self.old }
+    fn put_row<P: Plane>(&mut self, scene: &Scene<P>, row: Row)
+        requires { HasRoom (P.Plane.model scene.now.plane.now).width self.old }
         ensures same { self.new.buffer.ghost_name ≡ self.old.buffer.ghost_name }
-        ensures writes { Writes self.old (row_below (P.Plane.model plane.now) (casting_of survey.now).total row.0 (P.Plane.model plane.now).width) self.new }
+        ensures writes { Writes self.old (row_below (P.Plane.model scene.now.plane.now) (casting_of scene.now.survey.now).total row.0 (P.Plane.model scene.now.plane.now).width) self.new }
     {
-        for column in 0..plane.width() {
-            self.put(grey_at(survey, plane, Column(column), row));
+        for column in 0..scene.plane.width() {
+            self.put(scene.grey_at(Column(column), row));
         }
     }
 
     // Writes all rows.
-    fn put_rows<P: Plane>(&mut self, survey: &Casting, plane: &P)
-        requires fits { fits (casting_of survey.now) (P.Plane.model plane.now) ≡ true }
-        requires room { HasRoom ((P.Plane.model plane.now).width * (P.Plane.model plane.now).rows) self.old }
+    fn put_rows<P: Plane>(&mut self, scene: &Scene<P>)
+        requires { HasRoom ((P.Plane.model scene.now.plane.now).width * (P.Plane.model scene.now.plane.now).rows) self.old }
         ensures same { self.new.buffer.ghost_name ≡ self.old.buffer.ghost_name }
-        ensures writes { Writes self.old (rows_below (P.Plane.model plane.now) (casting_of survey.now).total (P.Plane.model plane.now).rows) self.new }
+        ensures writes { Writes self.old (rows_below (P.Plane.model scene.now.plane.now) (casting_of scene.now.survey.now).total (P.Plane.model scene.now.plane.now).rows) self.new }
     {
-        for row in 0..plane.rows() {
-            self.put_row(survey, plane, Row(row));
+        for row in 0..scene.plane.rows() {
+            self.put_row(scene, Row(row));
         }
     }
 }
@@ -99,6 +106,7 @@ pub fn draw<P: Plane>(survey: &Casting, plane: &P, buffer: &mut [u8]) -> Result<
     }
     let mut pen = Pen { buffer, at: 0 };
     pen.put_header(width, rows);
-    pen.put_rows(survey, plane);
+    let scene = Scene { survey, plane };
+    pen.put_rows(&scene);
     Ok(pen.at)
 }

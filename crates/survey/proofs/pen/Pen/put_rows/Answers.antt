@@ -7,12 +7,12 @@ use Rattle.survey.proofs.pen.Pen.put_rows.Goals as goal
 
 pub put_row-requires : goal.put_row-requires
 put_row-requires g c =
-    let m = g.P.Plane.model c.args.plane.now in
+    let m = g.P.Plane.model c.args.scene.now.plane.now in
     let p = c.args.self.now in
-    let l = length-rows m (casting_of c.args.survey.now).total c.loop-row.row in
+    let l = length-rows m (casting_of c.args.scene.now.survey.now).total c.loop-row.row in
     let h : c.loop-row.row < m.rows = omega (arith, c.rows-row-end.ensures) in
-    let fits : p.at + c.loop-row.row * m.width + m.width ≤ length p.buffer.now = row_fits m.width m.rows c.loop-row.row p.at (length p.buffer.now) h c.requires.room in
-    record { fits = c.requires.fits; room = omega (arith, c.loop-row.invariant.writes.written.place, c.loop-row.invariant.writes.size) }
+    let fits : p.at + c.loop-row.row * m.width + m.width ≤ length p.buffer.now = row_fits m.width m.rows c.loop-row.row p.at (length p.buffer.now) h c.requires in
+    omega (arith, c.loop-row.invariant.writes.written.place, c.loop-row.invariant.writes.size)
 
 pub loop-row-init : goal.loop-row-init
 loop-row-init g c = record { same = refl; writes = writes_none c.args.self.now }
@@ -21,11 +21,11 @@ pub loop-row-preserved : goal.loop-row-preserved
 loop-row-preserved g c = record {
   same = c.put_row.ensures.same ∙ c.loop-row.invariant.same;
   writes =
-      writes_row c.args.self.now c.loop-row.self c.put_row.new.self (g.P.Plane.model c.args.plane.now) (casting_of c.args.survey.now).total c.loop-row.row c.loop-row.invariant.writes c.put_row.ensures.writes;
+      writes_row c.args.self.now c.loop-row.self c.put_row.new.self (g.P.Plane.model c.args.scene.now.plane.now) (casting_of c.args.scene.now.survey.now).total c.loop-row.row c.loop-row.invariant.writes c.put_row.ensures.writes;
 }
 
 pub returns : goal.returns
 returns g c =
-    let m = g.P.Plane.model c.args.plane.now in
+    let m = g.P.Plane.model c.args.scene.now.plane.now in
     let e : c.loop-row.row ≡ m.rows = omega (arith, c.rows-row-end.ensures) in
-    record { same = c.loop-row.invariant.same; writes = subst (λ (n : ℕ). Writes c.args.self.now (rows_below m (casting_of c.args.survey.now).total n) c.loop-row.self) e c.loop-row.invariant.writes }
+    record { same = c.loop-row.invariant.same; writes = subst (λ (n : ℕ). Writes c.args.self.now (rows_below m (casting_of c.args.scene.now.survey.now).total n) c.loop-row.self) e c.loop-row.invariant.writes }
