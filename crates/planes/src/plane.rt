@@ -24,7 +24,8 @@ impl Window {
 }
 
 // A height and a count for each pixel. Counts wrap at the plane's modulus. Questions alter nothing; changes alter heights and counts
-// only, never the width, the rows, the modulus or the window.
+// only, never the width, the rows, the modulus or the window. A rule of the project names these calls, `more` and `less` among them, and
+// gives each a column and a row, which are types of their own.
 pub trait Plane {
     // what the plane holds, as a value of the logic
     ghost model: { Self → PlaneModel };

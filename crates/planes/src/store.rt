@@ -5,6 +5,7 @@ ghost use Rattle.planes.specs.Stores.{StoreModel, SoundStore, Filled, RaisedAt, 
 use crate::heights::Height;
 
 // A height and a count at each place. Counts wrap at the store's modulus. Changes never alter the number of places or the modulus.
+// That a place is there is asked at each call: a type for the places of one store would hold the store itself, and its number beside it.
 pub trait Store {
     // what the store keeps, as a value of the logic
     ghost kept: { Self → StoreModel };

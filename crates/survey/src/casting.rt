@@ -22,6 +22,7 @@ use volumes::face::Face;
 // The sunward triangles that a survey may cast in all.
 const MOST: u64 = 1_000_000;
 
+// The plane is lent to be changed and the solid to be asked: a type that holds both would have to promise of each call that the solid stays.
 impl Light {
     // How many triangles of a solid are sunward.
     fn count_sunward<S: Solid>(self, solid: &S) -> u32

@@ -28,7 +28,7 @@ fn count_at<P: Plane>(plane: &P, column: Column, row: Row) -> u32
     plane.count(column, row).unwrap()
 }
 
-// The mark of a pixel of the window, with its count and the number of sunward triangles cast.
+// The mark of a pixel of the window, with its count and the number of sunward triangles cast: a tuple of three, by a rule of the project.
 pub fn look<P: Plane>(
     survey: &Casting,
     plane: &P,

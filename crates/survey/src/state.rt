@@ -1,4 +1,5 @@
 // A survey's two states, each with a type of its own: solids are laid first, and cast after. Neither can be copied, so closing ends the first.
+// By a rule of the project a survey is plain numbers, and its plane is handed to each call.
 ghost use Rattle.std.specs.Prelude.{◌≡◌, ◌&&◌};
 ghost use Rattle.survey.specs.Survey.{shape_of, numbers_of, has_pixels, same_numbers};
 

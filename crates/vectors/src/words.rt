@@ -9,7 +9,8 @@ use std::fmt::Display;
 use std::str::SplitWhitespace;
 use std::vec::IntoIter;
 
-// The numbers of a line that are still to be taken.
+// The numbers of a line that are still to be taken. The heap is passed beside them, as to all that allocates: kept in here, each call would
+// only take it out again.
 #[derive(Drop)]
 pub struct Numbers(IntoIter<i64>);
 
