@@ -6,6 +6,7 @@ ghost use Rattle.std.specs.Prelude.{◌≡◌};
 ghost use Rattle.geometry.specs.Vectors.{vector};
 ghost use Rattle.geometry.specs.Answers.{struck_or_refused, told_in_c};
 
+// C calls a static library, and a crate is that or a library, so the function stands here again over the one of `geometry`.
 // Whether the triangle a b c keeps light of the run d from the receiver p: 0 for no, 1 for yes, else the number of the refusal.
 #[unsafe(no_mangle)]
 pub extern "C" fn hovantsi_strike(

@@ -3,7 +3,7 @@ ghost use Rattle.std.specs.Prelude.{◌≡◌};
 
 use geometry::refusal::Refusal;
 
-// The part of the tables that a refusal is about.
+// The part of the tables that a refusal is about. `Nowhere` is one case of five, so that a caller's match has one level, not two.
 #[derive(Clone, Copy, PartialEq, Eq, Debug)]
 pub enum Site {
     // no part of them

@@ -42,6 +42,7 @@ fn tour(rt: &HostRuntime) -> anyhow::Result<()> {
         "The sun is in the south, at the bearing {} {} {}.",
         bearing.dx, bearing.dy, bearing.dz
     )?;
+    // a match and no `?`: a refusal is a line of the tour, and no error of the program
     let run = match bearing.turn() {
         Ok(run) => run,
         Err(refusal) => {

@@ -100,6 +100,7 @@ fn tell(rt: &HostRuntime, call: &str, answer: Result<(), Refusal>) -> anyhow::Re
 
 // begin, lay, close, cast twice, look.
 fn survey<P: Plane, S: Solid>(rt: &HostRuntime, plane: &mut P, solid: &S) -> anyhow::Result<()> {
+    // a match and no `?`: a refusal is a line of the tour, and no error of the program
     let laying = match begin(plane, Step(0)) {
         Ok(laying) => laying,
         Err(refusal) => {

@@ -49,7 +49,7 @@ pub fn side_sign(u: Vector, v: Vector, sample: Sample) -> Sign
         .or_else(Sign::of(side[0]))
 }
 
-// How a face covers a sample: upwards, downwards or not.
+// How a face covers a sample: upwards, downwards or not. An `Option` of a way would be no plainer: side signs and weights have three cases.
 #[derive(Clone, Copy, PartialEq, Eq, Debug)]
 pub enum Cover {
     Up,

@@ -4,7 +4,7 @@ ghost use Rattle.geometry.specs.Machine.{vector_of};
 
 use geometry::vector::Vector;
 
-// A place of the plan, near enough that no function of a side between two of them overflows.
+// A place of the plan, near enough that no function of a side between two of them overflows; a sample may lie anywhere, and is in steps.
 #[derive(Clone, Copy)]
 pub struct Corner {
     pub x: i64,
