@@ -9,7 +9,8 @@ use crate::shape::Shape;
 use crate::store::{Store, fill_first};
 use geometry::refusal::Refusal;
 
-// The caller's lists, each with a number for each place. A number in the list of heights that is no height reads as the nearest height.
+// The caller's lists, each with a number for each place, as a rule of the project lays them out. A number in the list of heights that is no
+// height reads as the nearest height.
 #[derive(Drop)]
 pub struct Lists<'a> {
     heights: &'a mut [i32],

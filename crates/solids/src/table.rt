@@ -8,8 +8,8 @@ use crate::misfit::Misfit;
 use crate::solid::{Solid, Triangle};
 use geometry::units::Point;
 
-// A solid of three tables: its corners, its triangles, and at the place of each side the place of its partner. It keeps what the law of
-// solids asks of them.
+// A solid of three tables, as a rule of the project has the caller lend them: its corners, its triangles, and at the place of each side the
+// place of its partner. It keeps what the law of solids asks of them.
 #[derive(Drop)]
 pub struct TableSolid<'a> {
     corners: &'a [Point],

@@ -2,7 +2,7 @@
 ghost use Rattle.std.specs.Prelude.{◌≡◌, [], ◌∷◌, length, decimal};
 ghost use Rattle.survey.specs.Pens.{HasRoom, Writes};
 
-// The buffer, and how many bytes at its front are written.
+// The buffer, and how many bytes at its front are written: memory is lent, by a rule of the project, so it has no length of its own.
 #[derive(Drop)]
 pub(crate) struct Pen<'a> {
     pub(crate) buffer: &'a mut [u8],
