@@ -87,10 +87,9 @@ impl Mesh<'_> {
     {
         self.test_tables(partners.len())?;
         let chains = Chains::link(self.triangles);
-        // by index, since a proof knows nothing of what is written through `iter_mut`
-        for place in 0..partners.len() {
+        for (place, partner) in partners.iter_mut().enumerate() {
             let misfit = Misfit::new(Refusal::Side, Site::Place(place));
-            partners[place] = chains.partner_of(place).ok_or(misfit)? as u32;
+            *partner = chains.partner_of(place).ok_or(misfit)? as u32;
         }
         Ok(())
     }

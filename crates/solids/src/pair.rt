@@ -54,17 +54,12 @@ impl<A: Solid, B: Solid> Solid for Pair<A, B> {
     ghost lawful = { λ s. paired_lawful (A.Solid.model s.first) (B.Solid.model s.second) (A.Solid.lawful s.first) (B.Solid.lawful s.second) };
 
     fn corners(&self) -> usize {
-        match self.parts() {
-            Some((first, second)) => first.corners() + second.corners(),
-            None => 0,
-        }
+        self.parts()
+            .map_or(0, |(first, second)| first.corners() + second.corners())
     }
 
     fn triangles(&self) -> usize {
-        match self.parts() {
-            Some((first, second)) => first.triangles() + second.triangles(),
-            None => 0,
-        }
+        self.parts().map_or(0, |(first, second)| first.triangles() + second.triangles())
     }
 
     fn corner(&self, number: usize) -> Option<Point> {

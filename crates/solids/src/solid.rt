@@ -43,7 +43,7 @@ pub trait Solid {
         ensures { result ≡ (if ltb place (places (model self.now)) then Some ((model self.now).partner place) else None) };
 }
 
-// A borrowed solid is a solid.
+// A borrowed solid is a solid. Each call is passed on by hand, as std's traits do it: there is no plainer form.
 impl<S: Solid> Solid for &S {
     ghost model = { λ s. S.Solid.model s.now };
 
