@@ -12,7 +12,8 @@ use crate::light::Run;
 use crate::units::Point;
 use crate::vector::{Vector, cross, difference, dot};
 
-// The triangle a b c. Its outside is where the corners turn against the clock.
+// The triangle a b c. Its outside is where the corners turn against the clock. Limits are asked of it corner by corner, as the law of solids
+// promises them.
 #[derive(Clone, Copy, PartialEq, Eq, Debug)]
 pub struct Facet {
     pub a: Point,

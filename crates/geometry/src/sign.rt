@@ -3,7 +3,7 @@ ghost use Rattle.std.specs.Prelude.{◌≡◌, neg_ℤ};
 ghost use Rattle.geometry.specs.Signs.{sign_of};
 ghost use Rattle.geometry.specs.Machine.{sign_is, first_sign};
 
-// Whether a number is below, at or above 0.
+// Whether a number is below, at or above 0: the field's word, where std's `Ordering` would say of two numbers how they compare.
 #[derive(Clone, Copy, PartialEq, Eq, Debug)]
 pub enum Sign {
     Negative,

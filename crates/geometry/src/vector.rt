@@ -58,12 +58,14 @@ pub fn cross(u: Vector, v: Vector) -> Vector
     ]
 }
 
+// a·b, as 64 bits keep it: by this name the proof of `dot` speaks of each product.
 fn times(a: i64, b: i64) -> i64
     ensures { result ≡ int_wrap w64 (a *ℤ b) }
 {
     a.wrapping_mul(b)
 }
 
+// a + b, as 64 bits keep it.
 fn plus(a: i64, b: i64) -> i64
     ensures { result ≡ int_wrap w64 (a +ℤ b) }
 {

@@ -49,7 +49,7 @@ impl Cutout {
     }
 }
 
-// Whether a number is from `begin` to `end` - 1.
+// Whether a number is from `begin` to `end` - 1: by two comparisons, where a range's `contains` is one call more at each pixel.
 fn lies(number: u16, begin: i64, end: i64) -> bool
     ensures { result ≡ (int_le begin (pos number) && int_lt (pos number) end) }
 {

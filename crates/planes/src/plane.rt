@@ -33,7 +33,8 @@ pub trait Plane {
     // each plane keeps the limits
     ghost sound: { (p : Self) → Sound (model p) };
 
-    // The names of the references that the plane holds, which no call changes: so whoever lent them knows what they hold after.
+    // The names of the references that the plane holds, which no call changes: so whoever lent them knows what they hold after. Each change
+    // says so by a clause of its own, since a model is a value and has no references.
     ghost names: { Self → List ℕ };
 
     fn width(&self) -> u16

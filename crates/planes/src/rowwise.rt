@@ -8,7 +8,8 @@ use crate::shape::Shape;
 use crate::store::Store;
 use geometry::units::{Column, Row, Step};
 
-// A store with the width and the rows of the plane that it keeps.
+// A store with the width and the rows of the plane that it keeps. The makers and checks stand with the stores: they take the lists of one
+// kind, and differ in nothing else.
 #[derive(Drop)]
 pub struct Rowwise<S: Store> {
     pub(crate) store: S,

@@ -40,7 +40,8 @@ pub trait Store {
         ensures after { RaisedAt (kept self.old) at to.value (kept self.new) }
         ensures names { names self.new ≡ names self.old };
 
-    // One more in the count at a place, modulo the modulus.
+    // One more in the count at a place, modulo the modulus. This and `less` are two calls, as a plane's are: each is one addition in the number
+    // that holds the count.
     fn more(&mut self, at: usize)
         requires { at < (kept self.old).places }
         ensures after { CountedAt (kept self.old) at 1 (kept self.new) }

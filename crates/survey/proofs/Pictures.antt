@@ -63,10 +63,10 @@ appended_more at xs ys old mid new p q a b = record {
 
 -- ---- what a pen writes: nothing, and one part after another
 pub writes_none : (p : Pen) → Writes p [] p
-writes_none p = record { size = refl; written = appended_none p.at p.buffer.now }
+writes_none p = record { same = refl; size = refl; written = appended_none p.at p.buffer.now }
 
 pub writes_more : (p q r : Pen) (xs ys : List ℕ) → Writes p xs q → Writes q ys r → Writes p (xs ++ ys) r
-writes_more p q r xs ys a b = record { size = b.size ∙ a.size; written = appended_more p.at xs ys p.buffer.now q.buffer.now r.buffer.now q.at r.at a.written b.written }
+writes_more p q r xs ys a b = record { same = b.same ∙ a.same; size = b.size ∙ a.size; written = appended_more p.at xs ys p.buffer.now q.buffer.now r.buffer.now q.at r.at a.written b.written }
 
 -- the digits of a number but for the last, which are none for a single one
 abbrev pub Leads : Pen → Pen → ℕ → Type 0

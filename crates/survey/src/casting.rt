@@ -119,7 +119,7 @@ pub fn cast<P: Plane, S: Solid>(
     if solid.triangles() == 0 {
         return Err(Refusal::Empty);
     }
-    let light = Light::of(run)?;
+    let light = Light::try_from(run)?;
     let total = survey.total as u64 + light.count_sunward(solid) as u64;
     if total > MOST {
         return Err(Refusal::Total);

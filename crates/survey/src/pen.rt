@@ -2,7 +2,7 @@
 ghost use Rattle.std.specs.Prelude.{◌≡◌, [], ◌∷◌, length, decimal};
 ghost use Rattle.survey.specs.Pens.{HasRoom, Writes};
 
-// The buffer, and how many bytes at its front are written: memory is lent, by a rule of the project, so it has no length of its own.
+// The buffer, and how many bytes at its front are written. Memory is lent, by a rule of the project, so this is no `Vec`.
 #[derive(Drop)]
 pub(crate) struct Pen<'a> {
     pub(crate) buffer: &'a mut [u8],
@@ -13,8 +13,7 @@ impl<'a> Pen<'a> {
     // Writes one byte.
     pub(crate) fn put(&mut self, byte: u8)
         requires { HasRoom 1 self.old }
-        ensures same { self.new.buffer.ghost_name ≡ self.old.buffer.ghost_name }
-        ensures writes { Writes self.old (byte ∷ []) self.new }
+        ensures { Writes self.old (byte ∷ []) self.new }
     {
         let at = self.at;
         self.buffer[at] = byte;
@@ -24,8 +23,7 @@ impl<'a> Pen<'a> {
     // Writes a text.
     pub(crate) fn put_text(&mut self, text: &[u8])
         requires { HasRoom (length text.now) self.old }
-        ensures same { self.new.buffer.ghost_name ≡ self.old.buffer.ghost_name }
-        ensures writes { Writes self.old text.now self.new }
+        ensures { Writes self.old text.now self.new }
     {
         let start = self.at;
         let end = start + text.len();
@@ -37,8 +35,7 @@ impl<'a> Pen<'a> {
     // Writes a number by its digits. A `write!` would do it too, but no contract says that it succeeds, and drawing may not fail here.
     pub(crate) fn put_number(&mut self, number: u16)
         requires { HasRoom (length (decimal number)) self.old }
-        ensures same { self.new.buffer.ghost_name ≡ self.old.buffer.ghost_name }
-        ensures writes { Writes self.old (decimal number) self.new }
+        ensures { Writes self.old (decimal number) self.new }
     {
         if number >= 10 {
             self.put_number(number / 10);

@@ -56,8 +56,7 @@ impl<'a> Pen<'a> {
     // Writes the header of a picture.
     fn put_header(&mut self, width: u16, rows: u16)
         requires { HasRoom (length (header_of width rows)) self.old }
-        ensures same { self.new.buffer.ghost_name ≡ self.old.buffer.ghost_name }
-        ensures writes { Writes self.old (header_of width rows) self.new }
+        ensures { Writes self.old (header_of width rows) self.new }
     {
         self.put_text(b"P5\n");
         self.put_number(width);
@@ -69,8 +68,7 @@ impl<'a> Pen<'a> {
     // Writes a row of pixels.
     fn put_row<P: Plane>(&mut self, scene: &Scene<P>, row: Row)
         requires { HasRoom (P.Plane.model scene.now.plane.now).width self.old }
-        ensures same { self.new.buffer.ghost_name ≡ self.old.buffer.ghost_name }
-        ensures writes { Writes self.old (row_below (P.Plane.model scene.now.plane.now) (casting_of scene.now.survey.now).total row.0 (P.Plane.model scene.now.plane.now).width) self.new }
+        ensures { Writes self.old (row_below (P.Plane.model scene.now.plane.now) (casting_of scene.now.survey.now).total row.0 (P.Plane.model scene.now.plane.now).width) self.new }
     {
         for column in 0..scene.plane.width() {
             self.put(scene.grey_at(Column(column), row));
@@ -80,8 +78,7 @@ impl<'a> Pen<'a> {
     // Writes all rows.
     fn put_rows<P: Plane>(&mut self, scene: &Scene<P>)
         requires { HasRoom ((P.Plane.model scene.now.plane.now).width * (P.Plane.model scene.now.plane.now).rows) self.old }
-        ensures same { self.new.buffer.ghost_name ≡ self.old.buffer.ghost_name }
-        ensures writes { Writes self.old (rows_below (P.Plane.model scene.now.plane.now) (casting_of scene.now.survey.now).total (P.Plane.model scene.now.plane.now).rows) self.new }
+        ensures { Writes self.old (rows_below (P.Plane.model scene.now.plane.now) (casting_of scene.now.survey.now).total (P.Plane.model scene.now.plane.now).rows) self.new }
     {
         for row in 0..scene.plane.rows() {
             self.put_row(scene, Row(row));

@@ -26,7 +26,7 @@ pub fn classify(stage: Stage, line: Line) -> Result<(Entry, Stage), Fault>
     let next = stage.follow(head).ok_or(misheaded)?;
     let miscounted = Fault::at(Refusal::Fields, line.number);
     let record = record_of(head, &mut parts).ok_or(miscounted)?;
-    // a match is the plainest here: what is read goes on with the stage, and what is not with the line
+    // no `map_err`, whose closure would take the line's number along: here what is read goes on with the stage, and what is not with the line
     match entry_of(record) {
         Ok(entry) => Ok((entry, next)),
         Err(BadField(field)) => Err(Fault::in_field(Refusal::Field, line.number, field)),

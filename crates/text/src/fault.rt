@@ -47,7 +47,7 @@ impl From<Part> for u8 {
 }
 
 // A refusal, the part of the work that it belongs to, and the line, counted from 1. The field is that of the first bad field, counted from
-// 1, where the refusal is `Field`, and else 0: the line that `shade` prints of a fault has a number there in each case.
+// 1, where the refusal is `Field`, and else 0. A rule of the project gives a fault these four numbers.
 #[derive(Clone, Copy, PartialEq, Eq)]
 pub struct Fault {
     pub refusal: Refusal,

@@ -5,7 +5,7 @@ ghost use Rattle.text.specs.Pieces.{pieces};
 
 use crate::reader::{Line, Part, Parts, Reader};
 
-// The first place that holds `b`, or the length where none does.
+// The first place that holds `b`, or the length where none does: a piece ends there too, so that no caller needs a case for none.
 fn find(text: &[u8], b: u8) -> usize
     ensures within { result ≤ length text.now }
     ensures before { (k : ℕ) → k < result → slice_index text.now k ≢ b }

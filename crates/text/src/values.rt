@@ -12,7 +12,7 @@ use crate::number::number;
 #[derive(Clone, Copy, PartialEq, Eq, Debug)]
 pub struct BadField(pub usize);
 
-// What a field may hold, as it is spelt there.
+// What a field may hold, as it is spelt there. No TryFrom, which has no relation that the contracts of a whole line can name.
 trait Field: Sized {
     ghost spelt: { List ℕ → Self → Type 0 };
 

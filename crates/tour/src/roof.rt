@@ -90,6 +90,7 @@ fn show_pixel<P: Plane>(
     Ok(())
 }
 
+// A call, and whether it was done or refused.
 fn tell(rt: &HostRuntime, call: &str, answer: Result<(), Refusal>) -> anyhow::Result<()> {
     match answer {
         Ok(()) => println!(rt; "{call}: done")?,

@@ -57,18 +57,20 @@ pub enum Cover {
     Beside,
 }
 
-impl Cover {
-    // What one side says alone. It is no conversion, which would keep what the side is.
-    fn of(side: Sign) -> Cover
-        ensures { result ≡ cover_by (sign_is side ∷ []) }
-    {
+// What one side says alone.
+impl From<Sign> for Cover {
+    ghost from_gives = { λ side cover. cover ≡ cover_by (sign_is side ∷ []) };
+
+    fn from(side: Sign) -> Cover {
         match side {
             Sign::Positive => Cover::Up,
             Sign::Negative => Cover::Down,
             Sign::Zero => Cover::Beside,
         }
     }
+}
 
+impl Cover {
     // The same with one more side: all have to agree.
     fn along(self, side: Sign) -> Cover
         ensures { result ≡ cover_along self (sign_is side) }
@@ -100,7 +102,7 @@ impl Face {
     {
         let first = side_sign(self.first, self.second, sample);
         let second = side_sign(self.second, self.third, sample);
-        let cover = Cover::of(first).along(second);
+        let cover = Cover::from(first).along(second);
         match self.fourth {
             None => cover.along(side_sign(self.third, self.first, sample)),
             Some(fourth) => cover

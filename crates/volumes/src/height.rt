@@ -20,7 +20,8 @@ fn are_alike(a: i64, b: i64) -> bool
     a > 0 && b > 0 || a < 0 && b < 0
 }
 
-// number / by, rounded downwards; 0 or -1 where `by` is 0.
+// number / by, rounded downwards; 0 or -1 where `by` is 0. `div_euclid` would be no plainer: it wants a divisor that is an i64 and not 0, and a
+// normal may have any part.
 fn floor_quotient(number: i64, by: u64) -> i64
     ensures { result ≡ floor_div number by }
 {

@@ -10,6 +10,7 @@ use crate::raster::tilts::Tilt;
 use geometry::units::{Column, Row};
 use planes::plane::Plane;
 
+// What is done at each pixel that an outline covers.
 pub trait Brush {
     // what it lays on the pixel of a column and a row
     ghost lays: { Self → ℕ → ℕ → Option ℤ };

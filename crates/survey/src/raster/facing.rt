@@ -4,6 +4,7 @@ ghost use Rattle.survey.specs.Tilts.{facing_of};
 
 use std::cmp::Ordering;
 
+// Upwards, to whoever looks at the plan, or downwards.
 #[derive(Clone, Copy)]
 pub enum Facing {
     Up,

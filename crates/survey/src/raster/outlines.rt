@@ -8,7 +8,8 @@ use crate::raster::sides::Side;
 use crate::raster::spans::Span;
 use volumes::face::Face;
 
-// The pixels on the inner side of four sides, all of them between the rows of the topmost and the bottommost corner.
+// The pixels on the inner side of four sides, all of them between the rows of the topmost and the bottommost corner. An array of the sides
+// would be no plainer: a fold over it, with its closure, says what four lines of `cut` say.
 #[derive(Clone, Copy)]
 pub struct Outline {
     pub first: Side,
@@ -32,7 +33,8 @@ impl Outline {
     ghost use Rattle.survey.specs.Tilts.{covers_by};
     ghost use Rattle.survey.specs.RasterOutlines.{covers};
 
-    // What lies on the positive side of the three sides of a triangle.
+    // What lies on the positive side of the three sides of a triangle: no quadrilateral with a corner twice, since nothing lies on the positive
+    // side of a way from a corner to itself.
     fn triangle(a: Corner, b: Corner, c: Corner) -> Outline
         ensures { (i j : ℕ) → covers result i j ≡ left_of (seen a) (seen b ∷ seen c ∷ []) (sample_of i j) }
     {

@@ -23,7 +23,7 @@ pub struct Side {
 fn tie(dy: i64, dx: i64) -> i64
     ensures { result ≡ (if leans dy dx then pos 1 else pos 0) }
 {
-    if dy > 0 || dy == 0 && dx > 0 { 1 } else { 0 }
+    i64::from(dy > 0 || dy == 0 && dx > 0)
 }
 
 impl Side {

@@ -29,7 +29,7 @@ returns g c =
     let size : c.picture_length.result ≡ length (picture m s.total) = needed_length m s.total _ _ c.picture_length.result c.width-width.ensures c.rows-rows.ensures c.picture_length.ensures in
     let room : leb (length (picture m s.total)) (length c.args.buffer.now) ≡ true = le-leb _ _ (subst (λ (n : ℕ). n ≤ length c.args.buffer.now) size c.if-buffer-picture_length.false) in
     let all : Writes _ (picture m s.total) c.put_rows.new.self
-    = writes_picture _ c.put_header.new.self c.put_rows.new.self m s.total _ _ c.width-width.ensures c.rows-rows.ensures c.put_header.ensures.writes c.put_rows.ensures.writes in
+    = writes_picture _ c.put_header.new.self c.put_rows.new.self m s.total _ _ c.width-width.ensures c.rows-rows.ensures c.put_header.ensures c.put_rows.ensures in
     let written : c.put_rows.new.self.buffer.now ≡ filled c.args.buffer.now (picture m s.total) = picture_written (picture m s.total) c.args.buffer.now c.put_rows.new.self.buffer.now c.put_rows.new.self.at all.written in
     let same = sym (c.put_rows.ensures.same ∙ c.put_header.ensures.same) in
     record {

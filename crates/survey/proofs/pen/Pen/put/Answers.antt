@@ -6,5 +6,6 @@ use Rattle.survey.proofs.pen.Pen.put.Goals as goal
 pub returns : goal.returns
 returns c = record {
   same = refl;
-  writes = record { size = length-set c.args.self.now.buffer.now c.args.self.now.at c.args.byte; written = appended_one c.args.self.now.at c.args.byte c.args.self.now.buffer.now c.requires };
+  size = length-set c.args.self.now.buffer.now c.args.self.now.at c.args.byte;
+  written = appended_one c.args.self.now.at c.args.byte c.args.self.now.buffer.now c.requires;
 }

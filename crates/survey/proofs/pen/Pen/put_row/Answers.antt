@@ -1,4 +1,4 @@
-use Rattle.std.proofs.Common.{◌≡◌, ℕ, [], ◌∷◌, refl, ◌∙◌, subst, arith}
+use Rattle.std.proofs.Common.{◌≡◌, ℕ, [], ◌∷◌, subst, arith}
 use Rattle.survey.specs.Survey.{casting_of}
 use Rattle.survey.specs.Picture.{row_below}
 use Rattle.survey.specs.Pens.{Writes}
@@ -8,21 +8,18 @@ use Rattle.survey.proofs.pen.Pen.put_row.Goals as goal
 pub put-requires : goal.put-requires
 put-requires g c =
     let l = length-row (g.P.Plane.model c.args.scene.now.plane.now) (casting_of c.args.scene.now.survey.now).total c.args.row.0 c.loop-column.column in
-    omega (arith, c.loop-column.invariant.writes.written.place, c.loop-column.invariant.writes.size, c.width-column-end.ensures, c.requires)
+    omega (arith, c.loop-column.invariant.written.place, c.loop-column.invariant.size, c.width-column-end.ensures, c.requires)
 
 pub loop-column-init : goal.loop-column-init
-loop-column-init g c = record { same = refl; writes = writes_none c.args.self.now }
+loop-column-init g c = writes_none c.args.self.now
 
 pub loop-column-preserved : goal.loop-column-preserved
-loop-column-preserved g c = record {
-  same = c.put.ensures.same ∙ c.loop-column.invariant.same;
-  writes =
-      writes_pixel c.args.self.now c.loop-column.self c.put.new.self (g.P.Plane.model c.args.scene.now.plane.now) (casting_of c.args.scene.now.survey.now).total c.args.row.0 c.loop-column.column c.loop-column.invariant.writes
-      (subst (λ (b : ℕ). Writes c.loop-column.self (b ∷ []) c.put.new.self) c.grey_at.ensures c.put.ensures.writes);
-}
+loop-column-preserved g c =
+    writes_pixel c.args.self.now c.loop-column.self c.put.new.self (g.P.Plane.model c.args.scene.now.plane.now) (casting_of c.args.scene.now.survey.now).total c.args.row.0 c.loop-column.column c.loop-column.invariant
+    (subst (λ (b : ℕ). Writes c.loop-column.self (b ∷ []) c.put.new.self) c.grey_at.ensures c.put.ensures)
 
 pub returns : goal.returns
 returns g c =
     let m = g.P.Plane.model c.args.scene.now.plane.now in
     let e : c.loop-column.column ≡ m.width = omega (arith, c.width-column-end.ensures) in
-    record { same = c.loop-column.invariant.same; writes = subst (λ (n : ℕ). Writes c.args.self.now (row_below m (casting_of c.args.scene.now.survey.now).total c.args.row.0 n) c.loop-column.self) e c.loop-column.invariant.writes }
+    subst (λ (n : ℕ). Writes c.args.self.now (row_below m (casting_of c.args.scene.now.survey.now).total c.args.row.0 n) c.loop-column.self) e c.loop-column.invariant

@@ -16,11 +16,9 @@ returns c =
     let room : at + length text ≤ length old = c.requires in
     record {
       same = refl;
-      writes = record {
-        size = same_len_mid at (at + length text - at) old put c.copy_from_slice.ensures.len;
-        written =
-            appended_text at text old (put_mid at (at + length text - at) old put)
-            (take-put_mid at (at + length text - at) old put (at + length text) (omega (arith, long)) (omega (arith, room)) ∙ ap (λ (x : _). take at old ++ x) is)
-            (drop-put_mid at (at + length text - at) old put (at + length text) (omega arith) (omega (arith, room)) (omega (arith, long)));
-      };
+      size = same_len_mid at (at + length text - at) old put c.copy_from_slice.ensures.len;
+      written =
+          appended_text at text old (put_mid at (at + length text - at) old put)
+          (take-put_mid at (at + length text - at) old put (at + length text) (omega (arith, long)) (omega (arith, room)) ∙ ap (λ (x : _). take at old ++ x) is)
+          (drop-put_mid at (at + length text - at) old put (at + length text) (omega arith) (omega (arith, room)) (omega (arith, long)));
     }

@@ -15,6 +15,6 @@ returns-in-Some c =
     let b : sign_is c.side_sign-second.result ≡ wrapped_side_sign (vector_of f.second) (vector_of f.third) p = search rules in
     let d : sign_is c.side_sign-in-Some.result ≡ wrapped_side_sign (vector_of f.third) (vector_of v) p = search rules in
     let e : sign_is c.side_sign-in-Some-2.result ≡ wrapped_side_sign (vector_of v) (vector_of f.first) p = search rules in
-    let w = cover_of_four f p (sign_is c.side_sign-first.result) (sign_is c.side_sign-second.result) c.of.result c.along-cover.result a b c.of.ensures c.along-cover.ensures
+    let w = cover_of_four f p (sign_is c.side_sign-first.result) (sign_is c.side_sign-second.result) c.from.result c.along-cover.result a b c.from.ensures c.along-cover.ensures
     v (sign_is c.side_sign-in-Some.result) (sign_is c.side_sign-in-Some-2.result) c.along-in-Some.result c.along-in-Some-2.result c.in-Some.is d e c.along-in-Some.ensures c.along-in-Some-2.ensures in
     record { wrapped = w; exact = λ n s. w ∙ ap cover_by (signs_exact (face_of f) p n s) }

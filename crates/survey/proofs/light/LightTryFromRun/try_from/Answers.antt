@@ -5,7 +5,7 @@ use Rattle.geometry.specs.Limits.{in_run_limits}
 use Rattle.geometry.specs.declared.refusal.Refusal.{Refusal}
 use Rattle.geometry.specs.declared.refusal.Refusal.TheVariants as refusal
 use Rattle.volumes.specs.Machine.{extent_of}
-use Rattle.survey.proofs.light.Light.of.Goals as goal
+use Rattle.survey.proofs.light.LightTryFromRun.try_from.Goals as goal
 
 -- a test that gave an Err
 tested : {X : Type 0} (b : Bool) (x : X) (why other : Refusal) → cond {A = Result X Refusal} b (Ok x) (Err why) ≡ Err other → (b ≡ false) × (other ≡ why)
