@@ -61,7 +61,8 @@ impl ShadowRay {
         )
     }
 
-    // Whether the receiver lies on the inner side of the plane through the side from u to v along the light.
+    // Whether the receiver lies on the inner side of the plane through the side from u to v along the light. A side is given by its ends: a type
+    // for two corners of the facet would be made for this call alone.
     fn is_within(self, u: Point, v: Point) -> bool
         requires u { InLimits (point_of u) }
         requires v { InLimits (point_of v) }

@@ -41,7 +41,8 @@ impl<'a, S: Solid> Part<'a, S> {
     }
 }
 
-// The corners that the side at a place joins, from its start to its end.
+// The corners that the side at a place joins, from its start to its end. It asks any solid for points, where the matching of tables reads
+// corner numbers: the two share no more than which corners a place means.
 pub(crate) fn ends_of<S: Solid>(solid: &S, place: usize) -> (Point, Point)
     requires { place < places (S.Solid.model solid.now) }
     ensures start { point_of result.0 ≡ (S.Solid.model solid.now).corner (start_of (S.Solid.model solid.now) place) }

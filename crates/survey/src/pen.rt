@@ -10,7 +10,7 @@ pub(crate) struct Pen<'a> {
 }
 
 impl<'a> Pen<'a> {
-    // Writes one byte.
+    // Writes one byte. How much room a call needs differs from call to call, so each asks for its own.
     pub(crate) fn put(&mut self, byte: u8)
         requires { HasRoom 1 self.old }
         ensures { Writes self.old (byte ∷ []) self.new }

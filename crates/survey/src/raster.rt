@@ -38,7 +38,8 @@ pub(crate) fn draw_face<P: Plane>(plane: &mut P, face: &Face)
     }
 }
 
-// Raises each pixel of the window that the triangle covers to the whole number above it.
+// Raises each pixel of the window that the triangle covers to the whole number above it. Limits are asked corner by corner, as the law of
+// solids promises them.
 pub(crate) fn lay_triangle<P: Plane>(plane: &mut P, facet: Facet)
     requires a { InLimits (point_of facet.a) }
     requires b { InLimits (point_of facet.b) }

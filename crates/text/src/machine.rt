@@ -1,4 +1,4 @@
-// The order of a job's lines.
+// The order of a job's lines. A rule of the project has the machine match its stage and the head together.
 ghost use Rattle.std.specs.Prelude.{◌≡◌, Some, MatchOption};
 ghost use Rattle.text.specs.Order.{MayFollow, last_head};
 

@@ -20,7 +20,7 @@ enum Call {
     Count(Column, Row),
 }
 
-// A pixel's column or row.
+// A pixel's column or row. One function for this and `size` would take the type, the limit and the words of the error: no plainer.
 fn coordinate(numbers: &mut Numbers, what: &str) -> anyhow::Result<u16> {
     match u16::try_from(numbers.size()?) {
         Ok(number) if number <= 1000 => Ok(number),

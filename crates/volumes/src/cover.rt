@@ -11,7 +11,7 @@ use geometry::sign::Sign;
 use geometry::units::{Column, Row, Step};
 use geometry::vector::{Vector, cross, difference};
 
-// The place of the plan at which a pixel is tested.
+// The place of the plan at which a pixel is tested. It may be any: that it is near the plan is a premise where a clause needs it.
 #[derive(Clone, Copy, PartialEq, Eq, Debug)]
 pub struct Sample {
     pub x: Step,

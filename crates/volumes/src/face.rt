@@ -67,7 +67,7 @@ impl Face {
         }
     }
 
-    // What the side from u to v sweeps.
+    // What the side from u to v sweeps. A side is given by its ends, which a caller has as points.
     pub fn wall(u: Point, v: Point, extent: Vector) -> Face
         ensures wrapped { face_of result ≡ wrapped_face (wall_of (point_of u) (point_of v) (vector_of extent)) }
         ensures exact { (d : V3) → LawfulRun d → vector_of extent ≡ extent_along d → InLimits (point_of u) → InLimits (point_of v) → face_of result ≡ wall_of (point_of u) (point_of v) (vector_of extent) }
