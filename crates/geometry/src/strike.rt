@@ -18,7 +18,7 @@ use crate::units::Point;
 use crate::vector::{Vector, cross, difference, dot};
 
 // The side of the point p at the plane through u with the normal n. A point in the plane counts as a hair lower, then right, then down.
-// A type for n and u would be no plainer: each caller has both as vectors, and would only wrap them for this call.
+// A type for n and u would be no plainer: each caller makes the normal for the call, and would make it of two parts to be taken apart.
 pub fn plane_side(n: Vector, u: Vector, p: Vector) -> Sign
     ensures wrapped { sign_is result ≡ wrapped_side (vector_of n) (vector_of u) (vector_of p) }
     ensures exact { FitsSigned w64 (exact.dot (vector_of n) (exact.minus (vector_of p) (vector_of u))) → sign_is result ≡ test.plane_side (vector_of n) (vector_of u) (vector_of p) }
@@ -61,8 +61,8 @@ impl ShadowRay {
         )
     }
 
-    // Whether the receiver lies on the inner side of the plane through the side from u to v along the light. A side is given by its ends: a type
-    // for two corners of the facet would be made for this call alone.
+    // Whether the receiver lies on the inner side of the plane through the side from u to v along the light. A side is given by its ends,
+    // here and to `Face::wall`: a type for two points would be made by each caller and taken apart by each function.
     fn is_within(self, u: Point, v: Point) -> bool
         requires u { InLimits (point_of u) }
         requires v { InLimits (point_of v) }

@@ -65,7 +65,7 @@ fn times(a: i64, b: i64) -> i64
     a.wrapping_mul(b)
 }
 
-// a + b, as 64 bits keep it.
+// a + b, as 64 bits keep it: by this name that proof speaks of each sum.
 fn plus(a: i64, b: i64) -> i64
     ensures { result ≡ int_wrap w64 (a +ℤ b) }
 {

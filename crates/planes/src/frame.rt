@@ -7,7 +7,7 @@ use crate::plane::{Plane, Window};
 use geometry::units::{Column, Row, Step};
 
 // Columns c0 to c1 - 1 and rows r0 to r1 - 1, by any four numbers: a cutout may reach beyond a plane, and one whose end does not lie
-// after its beginning is empty. It shares no function with `Window`, whose columns and rows are types of their own: one generic type
+// after its beginning is empty. It shares no method with `Window`, whose columns and rows are types of their own: one generic type
 // for both would be no plainer.
 #[derive(Clone, Copy, PartialEq, Eq, Debug)]
 pub struct Cutout {
@@ -49,7 +49,8 @@ impl Cutout {
     }
 }
 
-// Whether a number is from `begin` to `end` - 1: by two comparisons, where a range's `contains` is one call more at each pixel.
+// Whether a number is from `begin` to `end` - 1: by two comparisons, which a range's `contains` would say with a reference
+// more.
 fn lies(number: u16, begin: i64, end: i64) -> bool
     ensures { result ≡ (int_le begin (pos number) && int_lt (pos number) end) }
 {

@@ -20,7 +20,7 @@ pub struct Height {
 
 impl Height {
     // A length as a height; none where it cannot be one. An Option and no TryFrom: a plane does nothing where there is no height, and needs no
-    // reason.
+    // reason. An `if`, since a closure for `then_some` has to ask for the range again.
     pub(crate) fn of(length: Step) -> Option<Height>
         ensures { MatchOption result (is_height length.0 ≡ false) (λ h. (is_height length.0 ≡ true) × (h.value ≡ length.0)) }
     {

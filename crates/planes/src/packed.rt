@@ -65,7 +65,8 @@ impl Pixel {
         Pixel((self.count() << HEIGHT_BITS) | above)
     }
 
-    // One more in the count, with the height as it is: the count has the highest bits, so that it wraps as the number does.
+    // One more in the count, with the height as it is: the count has the highest bits, so that it wraps as the number does. This and `less` are
+    // two functions, as a plane's calls are.
     fn more(self) -> Pixel
         ensures height { height_in result.0 ≡ height_in self.0 }
         ensures count { count_in result.0 ≡ (count_in self.0 + 1) % 131072 }

@@ -8,8 +8,8 @@ use crate::shape::Shape;
 use crate::store::Store;
 use geometry::units::{Column, Row, Step};
 
-// A store with the width and the rows of the plane that it keeps. The makers and checks stand with the stores: they take the lists of one
-// kind, and differ in nothing else.
+// A store with the width and the rows of the plane that it keeps. The checks and makers stand with the stores: each takes the lists that a
+// caller lends for one kind, and one for all kinds would take a store, which no caller has.
 #[derive(Drop)]
 pub struct Rowwise<S: Store> {
     pub(crate) store: S,

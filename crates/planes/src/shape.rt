@@ -20,7 +20,8 @@ impl Shape {
     pub(crate) const EMPTY: Shape = Shape { width: 0, rows: 0 };
 
     // The shape of that width and number of rows, each 1 to 256, if a list of that length holds its pixels, one at each place. The two
-    // numbers are the caller's, and any: a type for both would be made only to be taken apart here.
+    // numbers are the caller's, and any: a type for both would be made only to be taken apart here. An `if`, since a closure for `then` has to ask
+    // for the bounds again.
     pub(crate) fn of(width: usize, rows: usize, length: usize) -> Option<Shape>
         ensures { MatchOption result (fits width rows length ≡ false) (λ s. (fits width rows length ≡ true) × (s.width ≡ width) × (s.rows ≡ rows)) }
     {

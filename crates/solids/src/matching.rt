@@ -120,7 +120,7 @@ fn first_different(left: &[u32], right: &[u32]) -> Option<usize>
 // Fills the partner list of corners and triangles: at each place stands the one place whose side is the reverse. Refusals, in the
 // order of the tests: Count, Empty, Coordinate, Corner, Side, each with the first site where it is due; the list is then all 0.
 // (The word for this is `match`, which Rust reserves.) A side is compared only with the sides of its key, of which there are a handful
-// in a usual solid.
+// in a usual solid. By a rule of the project this call and `load` take the tables that a caller lends, one by one.
 pub fn match_sides(
     corners: &[Point],
     triangles: &[Triangle],

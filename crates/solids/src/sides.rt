@@ -101,6 +101,7 @@ impl<'a> Chains<'a> {
         let reverse = side.reversed();
         let mut found = None;
         let mut ahead = self.heads[side.key()] as usize;
+        // a chain is walked by its links: an iterator over them would be this loop in a type of its own
         while ahead > 0 {
             let here = ahead - 1;
             let other = Side::at(self.triangles, here);

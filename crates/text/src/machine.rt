@@ -1,4 +1,5 @@
-// The order of a job's lines. A rule of the project has the machine match its stage and the head together.
+// The order of a job's lines. A rule of the project gives the machine a stage of its own, which it matches with the head: so a stage is no
+// `Option` of a head.
 ghost use Rattle.std.specs.Prelude.{◌≡◌, Some, MatchOption};
 ghost use Rattle.text.specs.Order.{MayFollow, last_head};
 

@@ -50,7 +50,8 @@ const TRIANGLES: [Triangle; 12] = [
     Triangle { a: 3, b: 4, c: 7 },
 ];
 
-// The character of a mark. Text by a match is plainer than a type of its own for Display, which Mark cannot get here.
+// The character of a mark. Text by a match is plainer than a type of its own for Display, which Mark cannot get here; with the one for a sign
+// it shares no more than that.
 fn letter(mark: Mark) -> &'static str {
     match mark {
         Mark::Shaded => "#",

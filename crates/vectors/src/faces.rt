@@ -14,7 +14,7 @@ fn sample(numbers: &mut Numbers) -> anyhow::Result<Sample> {
     })
 }
 
-// The face's normal, how it covers the sample, and what it raises it to.
+// The face's normal, how it covers the sample, and what it raises it to. The words are the cases' own, so that no Display of `Cover` has them.
 fn shown(heap: Global, face: &Face, sample: Sample) -> anyhow::Result<String> {
     let [x, y, z] = face.normal;
     let way = match face.covers(sample) {

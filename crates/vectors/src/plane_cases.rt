@@ -29,7 +29,7 @@ fn coordinate(numbers: &mut Numbers, what: &str) -> anyhow::Result<u16> {
 }
 
 impl Call {
-    // 0 wipe g, 1 raise i j v, 2 more i j, 3 less i j, 4 height i j, and any other number count i j.
+    // 0 wipe g, 1 raise i j v, 2 more i j, 3 less i j, 4 height i j, and any other number count i j: the file of cases is numbers.
     fn read(numbers: &mut Numbers) -> anyhow::Result<Call> {
         let kind = numbers.number()?;
         if kind == 0 {
@@ -70,7 +70,7 @@ fn put<T: Display + Drop>(text: &mut String, held: Option<T>) -> Result<(), Allo
     }
 }
 
-// The window, the modulus, and the height and count of each pixel.
+// The window, the modulus, and the height and count of each pixel: 99999 for none, as the file of cases has it.
 fn shown<P: Plane>(plane: &P, text: &mut String) -> anyhow::Result<()> {
     let w = plane.window();
     write!(text, "window {} {} {} {}", w.c0.0, w.r0.0, w.c1.0, w.r1.0)?;

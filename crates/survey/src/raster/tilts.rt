@@ -43,7 +43,7 @@ impl Tilt {
         }
     }
 
-    // The plane through u whose normal is n, which points the way that the face looks.
+    // The plane through u whose normal is n, which points the way that the face looks. A face has both, and hands them on for this one call.
     pub(crate) fn facing(n: Vector, u: Vector, facing: Facing) -> Tilt
         requires { Inclined (turned_by facing (vector_of n).z) (vector_of n) (vector_of u) }
         ensures height { result.height ≡ turned_by facing (vector_of n).z }
