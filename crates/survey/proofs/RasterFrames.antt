@@ -10,7 +10,7 @@ use Rattle.volumes.specs.Faces.{Sample}
 use Rattle.survey.specs.Drawing.{sample_of}
 use Rattle.survey.specs.Spans.{positive}
 use Rattle.survey.specs.Sides.{left_of, right_of}
-use Rattle.survey.specs.Frames.{enclosed, Framed}
+use Rattle.survey.specs.RasterFrames.{enclosed, Framed}
 use Rattle.survey.specs.RasterOutlines.{covers}
 use Rattle.survey.specs.declared.raster.sides.Side.{Side}
 use Rattle.survey.specs.declared.raster.outlines.Outline.{Outline}

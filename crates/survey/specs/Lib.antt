@@ -2,7 +2,7 @@ pub mod Drawing
 pub mod Spans
 pub mod Sides
 pub mod Tilts
-pub mod Frames
+pub mod RasterFrames
 pub mod RasterOutlines
 pub mod Raster
 pub mod RasterTilts

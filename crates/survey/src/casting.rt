@@ -9,10 +9,10 @@ ghost use Rattle.survey.specs.Refusals.{cast_refusal};
 ghost use Rattle.survey.specs.Changes.{Tallied, Shadowed, caps_of, wall_on, walls_of, faces_of};
 ghost use Rattle.survey.specs.Account.{Undisturbed, CarriesCast};
 
-use crate::corners::{Part, ends_of};
 use crate::light::Light;
 use crate::raster::draw_face;
 use crate::state::Casting;
+use crate::triangles::{SolidTriangle, ends_of};
 use geometry::light::Run;
 use geometry::refusal::Refusal;
 use planes::plane::Plane;
@@ -31,8 +31,8 @@ impl Light {
         let mut sunward = 0;
         // A `filter(..).count()` would be given numbers that may name no triangle: one test more for each, and one case more to prove.
         for number in 0..solid.triangles() {
-            let part = Part { solid, number };
-            if part.is_sunward(self) {
+            let triangle = SolidTriangle { solid, number };
+            if triangle.is_sunward(self) {
                 sunward += 1;
             }
         }
@@ -40,11 +40,11 @@ impl Light {
     }
 
     // Draws the two caps of a triangle.
-    fn cast_caps<P: Plane, S: Solid>(self, plane: &mut P, part: &Part<S>)
-        ensures after { Tallied (P.Plane.model plane.old) (caps_of (S.Solid.model part.now.solid.now) (run_of self.run) part.now.number) (P.Plane.model plane.new) }
+    fn cast_caps<P: Plane, S: Solid>(self, plane: &mut P, triangle: &SolidTriangle<S>)
+        ensures after { Tallied (P.Plane.model plane.old) (caps_of (S.Solid.model triangle.now.solid.now) (run_of self.run) triangle.now.number) (P.Plane.model plane.new) }
         ensures names { P.Plane.names plane.new ≡ P.Plane.names plane.old }
     {
-        let facet = part.facet();
+        let facet = triangle.facet();
         draw_face(plane, &Face::near_cap(facet));
         draw_face(plane, &Face::far_cap(facet, self.extent));
     }
@@ -56,35 +56,35 @@ impl Light {
         ensures names { P.Plane.names plane.new ≡ P.Plane.names plane.old }
     {
         let partner = solid.partner(place).unwrap();
-        let part = Part {
+        let triangle = SolidTriangle {
             solid,
             number: partner / 3,
         };
-        if !part.is_sunward(self) {
+        if !triangle.is_sunward(self) {
             let (u, v) = ends_of(solid, place);
             draw_face(plane, &Face::wall(u, v, self.extent));
         }
     }
 
     // Draws the walls on the silhouette sides of a triangle.
-    fn cast_walls<P: Plane, S: Solid>(self, plane: &mut P, part: &Part<S>)
-        ensures after { Tallied (P.Plane.model plane.old) (walls_of (S.Solid.model part.now.solid.now) (run_of self.run) part.now.number) (P.Plane.model plane.new) }
+    fn cast_walls<P: Plane, S: Solid>(self, plane: &mut P, triangle: &SolidTriangle<S>)
+        ensures after { Tallied (P.Plane.model plane.old) (walls_of (S.Solid.model triangle.now.solid.now) (run_of self.run) triangle.now.number) (P.Plane.model plane.new) }
         ensures names { P.Plane.names plane.new ≡ P.Plane.names plane.old }
     {
-        let number = part.number;
-        self.cast_wall(plane, part.solid, 3 * number);
-        self.cast_wall(plane, part.solid, 3 * number + 1);
-        self.cast_wall(plane, part.solid, 3 * number + 2);
+        let number = triangle.number;
+        self.cast_wall(plane, triangle.solid, 3 * number);
+        self.cast_wall(plane, triangle.solid, 3 * number + 1);
+        self.cast_wall(plane, triangle.solid, 3 * number + 2);
     }
 
     // Draws the faces that a triangle gives to the shadow volume: none if it is not sunward.
-    fn cast_triangle<P: Plane, S: Solid>(self, plane: &mut P, part: &Part<S>)
-        ensures after { Tallied (P.Plane.model plane.old) (faces_of (S.Solid.model part.now.solid.now) (run_of self.run) part.now.number) (P.Plane.model plane.new) }
+    fn cast_triangle<P: Plane, S: Solid>(self, plane: &mut P, triangle: &SolidTriangle<S>)
+        ensures after { Tallied (P.Plane.model plane.old) (faces_of (S.Solid.model triangle.now.solid.now) (run_of self.run) triangle.now.number) (P.Plane.model plane.new) }
         ensures names { P.Plane.names plane.new ≡ P.Plane.names plane.old }
     {
-        if part.is_sunward(self) {
-            self.cast_caps(plane, part);
-            self.cast_walls(plane, part);
+        if triangle.is_sunward(self) {
+            self.cast_caps(plane, triangle);
+            self.cast_walls(plane, triangle);
         }
     }
 
@@ -94,7 +94,7 @@ impl Light {
         ensures names { P.Plane.names plane.new ≡ P.Plane.names plane.old }
     {
         for number in 0..solid.triangles() {
-            self.cast_triangle(plane, &Part { solid, number });
+            self.cast_triangle(plane, &SolidTriangle { solid, number });
         }
     }
 }

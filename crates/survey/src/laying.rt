@@ -6,9 +6,9 @@ ghost use Rattle.survey.specs.Refusals.{is_ground, begin_refusal, lay_refusal};
 ghost use Rattle.survey.specs.Changes.{Begun, Laid};
 ghost use Rattle.survey.specs.Account.{bare, Stands, Undisturbed, CarriesLay};
 
-use crate::corners::Part;
 use crate::raster::lay_triangle;
 use crate::state::{Casting, Laying, Shape, has_pixels};
+use crate::triangles::SolidTriangle;
 use geometry::limits::is_between;
 use geometry::refusal::Refusal;
 use geometry::units::Step;
@@ -46,8 +46,8 @@ fn lay_triangles<P: Plane, S: Solid>(plane: &mut P, solid: &S)
     ensures names { P.Plane.names plane.new ≡ P.Plane.names plane.old }
 {
     for number in 0..solid.triangles() {
-        let part = Part { solid, number };
-        let facet = part.facet();
+        let triangle = SolidTriangle { solid, number };
+        let facet = triangle.facet();
         lay_triangle(plane, facet);
     }
 }

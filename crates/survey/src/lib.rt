@@ -2,7 +2,6 @@
 #![tactic(auto)]
 
 pub mod casting;
-mod corners;
 pub mod laying;
 mod light;
 pub mod mark;
@@ -12,3 +11,4 @@ mod raster;
 pub mod reading;
 pub mod state;
 pub mod theorems;
+mod triangles;

@@ -1,6 +1,6 @@
 // Outlines of faces, seen from above.
 ghost use Rattle.std.specs.Prelude.{◌≡◌, ◌^◌, ◌≤◌, unsigned_abs};
-ghost use Rattle.survey.specs.Frames.{Framed};
+ghost use Rattle.survey.specs.RasterFrames.{Framed};
 
 use crate::raster::corners::Corner;
 use crate::raster::facing::Facing;

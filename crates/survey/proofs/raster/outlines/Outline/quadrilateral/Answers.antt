@@ -1,7 +1,7 @@
 use Rattle.std.proofs.Common.{◌≡◌, ℕ, [], ◌∷◌}
 use Rattle.survey.specs.Drawing.{sample_of}
 use Rattle.survey.specs.Sides.{seen, left_of}
-use Rattle.survey.specs.Frames.{enclosed}
+use Rattle.survey.specs.RasterFrames.{enclosed}
 use Rattle.survey.proofs.RasterFrames.{four_sides, framed, le_trans, least, greatest}
 use Rattle.survey.proofs.raster.outlines.Outline.quadrilateral.Goals as goal
 

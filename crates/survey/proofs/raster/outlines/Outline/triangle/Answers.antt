@@ -1,7 +1,7 @@
 use Rattle.std.proofs.Common.{◌≡◌, ℕ, [], ◌∷◌}
 use Rattle.survey.specs.Drawing.{sample_of}
 use Rattle.survey.specs.Sides.{seen, left_of}
-use Rattle.survey.specs.Frames.{enclosed}
+use Rattle.survey.specs.RasterFrames.{enclosed}
 use Rattle.survey.proofs.SideTests.{everywhere_is}
 use Rattle.survey.proofs.RasterFrames.{three_sides, framed, le_trans, least, greatest}
 use Rattle.survey.proofs.raster.outlines.Outline.triangle.Goals as goal

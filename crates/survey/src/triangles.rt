@@ -12,13 +12,13 @@ use solids::solid::Solid;
 
 // One of a solid's triangles, by its number.
 #[derive(Drop)]
-pub(crate) struct Part<'a, S: Solid> {
+pub(crate) struct SolidTriangle<'a, S: Solid> {
     pub(crate) solid: &'a S,
     pub(crate) number: usize,
     ghost there: { number < (S.Solid.model solid.now).triangles },
 }
 
-impl<'a, S: Solid> Part<'a, S> {
+impl<'a, S: Solid> SolidTriangle<'a, S> {
     // Its corners.
     pub(crate) fn facet(&self) -> Facet
         ensures a { point_of result.a ≡ corner_of (S.Solid.model self.now.solid.now) self.now.number 0 }
@@ -48,11 +48,11 @@ pub(crate) fn ends_of<S: Solid>(solid: &S, place: usize) -> (Point, Point)
     ensures start { point_of result.0 ≡ (S.Solid.model solid.now).corner (start_of (S.Solid.model solid.now) place) }
     ensures end { point_of result.1 ≡ (S.Solid.model solid.now).corner (end_of (S.Solid.model solid.now) place) }
 {
-    let part = Part {
+    let triangle = SolidTriangle {
         solid,
         number: place / 3,
     };
-    let facet = part.facet();
+    let facet = triangle.facet();
     match place % 3 {
         0 => (facet.a, facet.b),
         1 => (facet.b, facet.c),

@@ -1,7 +1,7 @@
 -- The law of a solid says that the corners are there.
 use Rattle.std.proofs.Common.{lit<}
 use Rattle.survey.proofs.Limits.{corner_there}
-use Rattle.survey.proofs.corners.Part.facet.Goals as goal
+use Rattle.survey.proofs.triangles.SolidTriangle.facet.Goals as goal
 
 pub unwrap-requires : goal.unwrap-requires
 unwrap-requires g c =

@@ -1,6 +1,6 @@
 use Rattle.geometry.specs.Light.{run_of}
 use Rattle.survey.proofs.Volumes.{sunward_at_lem}
-use Rattle.survey.proofs.corners.Part.is_sunward.Goals as goal
+use Rattle.survey.proofs.triangles.SolidTriangle.is_sunward.Goals as goal
 
 pub returns : goal.returns
 returns g c =
