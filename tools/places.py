@@ -23,47 +23,55 @@ top = args[0] if args else "."
 files = sorted(glob.glob(os.path.join(top, "crates/*/src/**/*.rt"), recursive=True))
 
 
+def closing(text, start, pair):
+    """The place behind the bracket that closes the one before `start`."""
+    depth, end = 1, start
+    while depth and end < len(text):
+        depth += {pair[0]: 1, pair[1]: -1}.get(text[end], 0)
+        end += 1
+    return end
+
+
 def functions(text):
     """(name, parameters, answer, clauses, body, line) of each fn with a body or a semicolon."""
     for m in re.finditer(r"\bfn (\w+)", text):
-        i = text.index("(", m.end())
-        depth, j = 0, i
-        while True:
-            depth += {"(": 1, ")": -1}.get(text[j], 0)
-            j += 1
-            if depth == 0:
-                break
-        head = text[i + 1 : j - 1]
-        k, depth = j, 0
+        start = text.index("(", m.end()) + 1
+        end = closing(text, start, "()")
+        head = text[start : end - 1]
+        at = end
         clauses = []
-        while k < len(text):
-            c = re.match(r"\s*(requires|ensures)\b[^{]*\{", text[k:])
-            a = re.match(r"[^{;]*?(?=\s*(requires|ensures)\b)", text[k:])
-            if c:
-                s = k + c.end()
-                depth, e = 1, s
-                while depth:
-                    depth += {"{": 1, "}": -1}.get(text[e], 0)
-                    e += 1
-                clauses.append((c.group(1), text[s : e - 1].strip()))
-                k = e
-            elif a and a.group(0):
-                k += a.end()
+        while at < len(text):
+            clause = re.match(r"\s*(requires|ensures)\b[^{]*\{", text[at:])
+            before = re.match(r"[^{;]*?(?=\s*(requires|ensures)\b)", text[at:])
+            if clause:
+                begin = at + clause.end()
+                at = closing(text, begin, "{}")
+                clauses.append((clause.group(1), text[begin : at - 1].strip()))
+            elif before and before.group(0):
+                at += before.end()
             else:
                 break
-        rest = re.match(r"([^{;]*)([{;])", text[k:])
-        answer = re.match(r"\s*(->\s*[^{;]*?)?\s*($|where|requires|ensures|[{;])", text[j:])
+        rest = re.match(r"([^{;]*)([{;])", text[at:])
         body = ""
         if rest and rest.group(2) == "{":
-            s = k + rest.end()
-            depth, e = 1, s
-            while depth and e < len(text):
-                depth += {"{": 1, "}": -1}.get(text[e], 0)
-                e += 1
-            body = text[s : e - 1]
-        ans = re.match(r"\s*->\s*(.+?)\s*(?=\n\s*(?:requires|ensures)|\{|;|\n)", text[j:], re.S)
-        yield m.group(1), head, (ans.group(1).strip() if ans else ""), clauses, body, text.count("\n", 0, m.start()) + 1
+            begin = at + rest.end()
+            body = text[begin : closing(text, begin, "{}") - 1]
+        answer = re.match(r"\s*->\s*(.+?)\s*(?=\n\s*(?:requires|ensures)|\{|;|\n)", text[end:], re.S)
+        yield m.group(1), head, (answer.group(1).strip() if answer else ""), clauses, body, text.count("\n", 0, m.start()) + 1
 
+
+# what a line shows: the point, the kind of place, its form
+LINES = [
+    (1, "own enums", r"^\s*(pub(\(crate\))? )?enum "),
+    (1, "let .. else", r"let (Some|Ok)\(.*\belse\b"),
+    (1, "arms that hand on", r"None => None\b|None => return None|Err\((\w+)\) => Err\(\1\)|Err\((\w+)\) => return Err\(\2\)"),
+    (1, "errors that are numbers", r"Result<[^<>]*(<[^<>]*>)?[^<>]*, (usize|u8|u16|u32)>"),
+    (1, "fields of type bool", r"^\s*(pub(\(crate\))? )?\w+: bool,"),
+    (3, "for over a range, while", r"\bfor \w+ in .*\.\.|\bwhile\b"),
+    (4, "self as a number", r"\bself as "),
+    (7, "dyn, function pointers", r"\bdyn\b|\bfn\("),
+    (7, "arms on a text or a number that do something", r"^\s*(b?\"[^\"]*\"|\d+) => (?!Some\(|Ok\(|\")"),
+]
 
 found = collections.OrderedDict((p, collections.OrderedDict()) for p in range(1, 8))
 
@@ -81,24 +89,9 @@ for f in files:
     short = os.path.relpath(f, os.path.join(top, "crates")).replace("/src/", "/")
     for n, line in enumerate(text.split("\n"), 1):
         at = f"{short}:{n}: {line.strip()}"
-        if re.search(r"^\s*(pub(\(crate\))? )?enum ", line):
-            place(1, "own enums", at)
-        if re.search(r"let (Some|Ok)\(.*\belse\b", line):
-            place(1, "let .. else", at)
-        if re.search(r"None => None\b|None => return None|Err\((\w+)\) => Err\(\1\)|Err\((\w+)\) => return Err\(\2\)", line):
-            place(1, "arms that hand on", at)
-        if re.search(r"Result<[^<>]*(<[^<>]*>)?[^<>]*, (usize|u8|u16|u32)>", line):
-            place(1, "errors that are numbers", at)
-        if re.search(r"^\s*(pub(\(crate\))? )?\w+: bool,", line):
-            place(1, "fields of type bool", at)
-        if re.search(r"\bfor \w+ in .*\.\.|\bwhile\b", line):
-            place(3, "for over a range, while", at)
-        if re.search(r"\bself as ", line):
-            place(4, "self as a number", at)
-        if re.search(r"\bdyn\b|\bfn\(", line):
-            place(7, "dyn, function pointers", at)
-        if re.search(r"^\s*(b?\"[^\"]*\"|\d+) => ", line) and "=> Some(" not in line and "=> Ok(" not in line and "=> \"" not in line:
-            place(7, "arms on a text or a number that do something", at)
+        for point, kind, form in LINES:
+            if re.search(form, line):
+                place(point, kind, at)
     for m in re.finditer(r"struct (\w+)(<[^>]*>)? \{(.*?)\n\}", text, re.S):
         fields = re.findall(r"^\s*(?:pub(?:\(crate\))? )?(\w+): ([^,\n]+),", m.group(3), re.M)
         structs.append((short, m.group(1), fields))
