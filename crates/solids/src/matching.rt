@@ -86,7 +86,9 @@ impl Mesh<'_> {
         ensures { MatchResult result (λ _. Partnered self.now.corners.now self.now.triangles.now partners.new) (λ e. Unmatched self.now.corners.now self.now.triangles.now (length partners.old) e) }
     {
         self.test_tables(partners.len())?;
-        let chains = Chains::link(self.triangles);
+        let mut heads = [0; MOST];
+        let mut links = [0; MOST_PLACES];
+        let chains = Chains::link(self.triangles, &mut heads, &mut links);
         for (place, partner) in partners.iter_mut().enumerate() {
             let misfit = Misfit::new(Refusal::Side, Site::Place(place));
             *partner = chains.partner_of(place).ok_or(misfit)? as u32;

@@ -60,26 +60,33 @@ impl Side {
 }
 
 // The sides of triangles, each in the chain of its key: a head for each key, and from each place a link to the one before it, in arrays on
-// the stack, since a rule of the project allows no heap. 0 ends a chain, and other numbers are one more than a place: with `Option<u16>` in
-// their stead 4,096 triangles took a tenth longer, and matching should get no slower.
+// the stack of whoever links them, since a rule of the project allows no heap: kept in here, they would be copied to where the chains are
+// used. 0 ends a chain, and other numbers are one more than a place: with `Option<u16>` in their stead 4,096 triangles took a tenth longer,
+// and matching should get no slower.
 #[derive(Drop)]
 pub(crate) struct Chains<'a> {
     triangles: &'a [Triangle],
-    heads: [u32; MOST],
-    links: [u32; MOST_PLACES],
+    heads: &'a [u32],
+    links: &'a [u32],
     ghost few: { length triangles.now ≤ 4096 },
-    ghost linked: { Linked triangles.now (sides triangles.now) heads links },
+    ghost full: { length heads.now ≡ 4096 },
+    ghost room: { sides triangles.now ≤ length links.now },
+    ghost linked: { Linked triangles.now (sides triangles.now) heads.now links.now },
 }
 
 impl<'a> Chains<'a> {
-    // Puts the places of all sides into chains.
-    pub(crate) fn link(triangles: &'a [Triangle]) -> Chains<'a>
-        requires { length triangles.now ≤ 4096 }
+    // Puts the places of all sides into chains, in two lists: of 4,096 zeros, and with a place for each side.
+    pub(crate) fn link(
+        triangles: &'a [Triangle],
+        heads: &'a mut [u32],
+        links: &'a mut [u32],
+    ) -> Chains<'a>
+        requires few { length triangles.now ≤ 4096 }
+        requires clear { heads.old ≡ replicate 4096 0 }
+        requires room { sides triangles.now ≤ length links.old }
         ensures { result.triangles.now ≡ triangles.now }
     {
-        let mut heads = [0; MOST];
-        let mut links = [0; MOST_PLACES];
-        // by place: each writes to two arrays, by itself and by its key, and `links` has room for more places than there are
+        // by place: each writes to two lists, by itself and by its key, and `links` may have room for more places than there are
         for place in 0..3 * triangles.len() {
             let key = Side::at(triangles, place).key();
             links[place] = heads[key];
