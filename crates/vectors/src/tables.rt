@@ -83,9 +83,12 @@ impl Tables {
     // The same numbers, one corner and one triangle, which stand for all, with a partner list to be written.
     fn read_many(heap: Global, numbers: &mut Numbers) -> anyhow::Result<Tables> {
         let lengths = Lengths::read(numbers)?;
+        // both before the lists: a number that is missing is told even where there is no room for them
+        let corner = numbers.point()?;
+        let triangle = triangle(numbers)?;
         Ok(Tables {
-            corners: vec![in heap; numbers.point()?; lengths.corners]?,
-            triangles: vec![in heap; triangle(numbers)?; lengths.triangles]?,
+            corners: vec![in heap; corner; lengths.corners]?,
+            triangles: vec![in heap; triangle; lengths.triangles]?,
             partners: vec![in heap; 9u32; lengths.partners]?,
         })
     }

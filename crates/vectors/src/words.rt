@@ -1,5 +1,5 @@
 // What a line gives a call: its numbers, taken one after another, and how an answer is written.
-use anyhow::{Context, bail};
+use anyhow::bail;
 use geometry::facet::Facet;
 use geometry::light::Run;
 use geometry::units::Point;
@@ -17,14 +17,20 @@ pub struct Numbers(IntoIter<i64>);
 impl Numbers {
     // The words that are left of a line, each a number.
     pub(crate) fn parse(heap: Global, words: SplitWhitespace<'_>) -> anyhow::Result<Numbers> {
-        let list: Vec<i64> = words
-            .map(|word| -> anyhow::Result<i64> { Ok(word.parse::<i64>()?) })
-            .try_collect(heap)?;
+        // a loop: `try_collect` would hand on each number in a result with room for an error, which is copied
+        let mut list = Vec::new(heap);
+        for word in words {
+            list.push(word.parse::<i64>()?)?;
+        }
         Ok(Numbers(list.into_iter()))
     }
 
     pub(crate) fn number(&mut self) -> anyhow::Result<i64> {
-        self.0.next().context("a number is missing")
+        // a match and no `context`, which fills and copies the room for an error at each number
+        match self.0.next() {
+            Some(number) => Ok(number),
+            None => bail!("a number is missing"),
+        }
     }
 
     // A number of places or of things.
