@@ -81,7 +81,9 @@ impl Mesh<'_> {
         Ok(())
     }
 
-    // Writes the partner of each side, as far as the pairing rule holds.
+    // Writes the partner of each side, as far as the pairing rule holds. Its two arrays (64 KB), and the one of `test_partners` (48 KB), are on
+    // the stack: neither function is inlined, or a caller would have them under all else that it does.
+    #[inline(never)]
     fn pair_sides(&self, partners: &mut [u32]) -> Result<(), Misfit>
         ensures { MatchResult result (λ _. Partnered self.now.corners.now self.now.triangles.now partners.new) (λ e. Unmatched self.now.corners.now self.now.triangles.now (length partners.old) e) }
     {
@@ -97,6 +99,7 @@ impl Mesh<'_> {
     }
 
     // Whether the tables make a solid with a partner list.
+    #[inline(never)]
     pub(crate) fn test_partners(&self, partners: &[u32]) -> Result<(), Misfit>
         ensures { MatchResult result (λ _. Partnered self.now.corners.now self.now.triangles.now partners.now) (λ e. Unloaded self.now.corners.now self.now.triangles.now partners.now e) }
     {

@@ -103,8 +103,7 @@ impl Tables {
         told(heap, answer.and(Ok("matched")).map_err(Fault))
     }
 
-    // Loads the three lists. Not inlined: the solid is loaded over 48 KB of stack, which would then stand under each line's call.
-    #[inline(never)]
+    // Loads the three lists.
     fn load<'a>(&'a self, solid: &mut TableSolid<'a>) -> Result<(), Misfit> {
         solid.load(
             self.corners.as_slice(),
